@@ -6,6 +6,9 @@ pub mod OneValue
 pub mod OneCommand
 pub mod OrderLemmas
 pub mod ClassLemmas
+pub mod NameLemmas
+pub mod ChosenLemmas
+pub mod PartLemmas
 pub mod PlainLemmas
 pub mod SaidLemmas
 pub mod ShapeLemmas

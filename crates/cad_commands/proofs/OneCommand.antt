@@ -14,10 +14,11 @@ use Rattle.cad_commands.specs.Members.{Has, member_in}
 use Rattle.cad_commands.specs.Values.{IsWholeOf, IsObjectOf, IsDayOf, IsWordsOf, IsFlagOf, IsShareOf, IsPointOf}
 use Rattle.cad_versions.specs.declared.body_parts.BodyParts.{BodyParts}
 use Rattle.cad_versions.specs.BodyParts.{parts_of}
+use Rattle.cad_versions.specs.Class.{class_name}
 use Rattle.cad_versions.specs.lemmas.BodyLemmas.{same_body}
-use Rattle.cad_commands.specs.Bodies.{class_name, SaysParts, SaysBody}
+use Rattle.cad_commands.specs.Bodies.{SaysParts, SaysBody}
 use Rattle.cad_commands.specs.Commands.{IsOperationOf, SaysOneBody, SaysBeginning, SaysEnd, SaysCommand, Says}
-use Rattle.cad_commands.proofs.ClassLemmas.{one_class}
+use Rattle.cad_commands.proofs.NameLemmas.{one_class}
 use Rattle.cad_commands.proofs.ShapeLemmas.{one_shape}
 use Rattle.cad_commands.proofs.ValueLemmas.{point_said}
 use Rattle.cad_commands.proofs.OneValue.{may_have_one, has_one, one_whole, one_flag, one_object, one_words, one_day, one_share, one_operation}

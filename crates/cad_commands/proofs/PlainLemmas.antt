@@ -98,8 +98,8 @@ any_depth json_of n low (Some x) = low x
 pub area_depth : (o : Option ℕ) → depth (or_null whole_json o) ≤ 2
 area_depth o = any_depth whole_json 2 (λ n. omega arith) o
 
-pub party_depth : (o : Option ObjectId) → depth (or_null object_json o) ≤ 2
-party_depth o = any_depth object_json 2 (λ object. omega arith) o
+pub object_depth : (o : Option ObjectId) → depth (or_null object_json o) ≤ 2
+object_depth o = any_depth object_json 2 (λ object. omega arith) o
 
 pub share_depth : (o : Option Share) → depth (or_null share_json o) ≤ 2
 share_depth o = any_depth share_json 2 (λ share. omega arith) o

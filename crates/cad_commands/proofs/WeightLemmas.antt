@@ -13,13 +13,13 @@ use Rattle.cad_versions.specs.declared.object_id.ObjectId.{ObjectId}
 use Rattle.cad_versions.specs.declared.share.Share.{Share}
 use Rattle.cad_versions.specs.declared.words.Words.{Words}
 use Rattle.cad_versions.specs.declared.body.Body.{Body}
-use Rattle.cad_versions.specs.declared.body.Body.TheVariants as body
-use Rattle.cad_versions.specs.declared.body.Class.{Class}
-use Rattle.cad_versions.specs.declared.body.Class.TheVariants as class
-use Rattle.cad_versions.specs.Class.{class_of}
-use Rattle.cad_commands.specs.Bodies.{class_name}
-use Rattle.cad_commands.specs.Writing.{whole_json, object_json, words_json, share_json, point_json, points_json, rings_json, outline_in, holes_in, outline_json, holes_json, or_null, right_members, body_members, beginning_members}
+use Rattle.cad_versions.specs.declared.body_parts.BodyParts.{BodyParts}
+use Rattle.cad_versions.specs.BodyParts.{parts_of}
+use Rattle.cad_versions.specs.Class.{class_attributes, class_of}
+use Rattle.cad_commands.specs.Writing.{whole_json, object_json, words_json, share_json, point_json, points_json, rings_json, outline_in, holes_in, outline_json, holes_json, or_null, part_members, body_members, beginning_members}
+use Rattle.cad_commands.proofs.ChosenLemmas.{chosen_weight}
 use Rattle.cad_commands.proofs.LengthLemmas.{weight, items_weight, members_weight}
+use Rattle.cad_commands.proofs.NameLemmas.{class_length}
 
 -- ---- shapes
 
@@ -41,18 +41,15 @@ any_shape_weight (Some region) = shape_weight (rings_of region) region.not_too_m
 
 -- ---- other parts
 
-words_weight : (words : Words) → weight (words_json words) ≤ 1202
-words_weight words = omega (arith, words.few)
-
 any_weight : {X : Type 0} (json_of : X → Data) (n : ℕ) → 4 ≤ n → ((x : X) → weight (json_of x) ≤ n) → (o : Option X) → weight (or_null json_of o) ≤ n
 any_weight json_of n room low None = omega (arith, room)
 any_weight json_of n room low (Some x) = low x
 
-name_weight : (o : Option Words) → weight (or_null words_json o) ≤ 1202
-name_weight o = any_weight words_json 1202 (omega arith) words_weight o
+words_weight : (o : Option Words) → weight (or_null words_json o) ≤ 1202
+words_weight o = any_weight words_json 1202 (omega arith) (λ words. omega (arith, words.few)) o
 
-party_weight : (o : Option ObjectId) → weight (or_null object_json o) ≤ 20
-party_weight o = any_weight object_json 20 (omega arith) (λ object. omega arith) o
+object_weight : (o : Option ObjectId) → weight (or_null object_json o) ≤ 20
+object_weight o = any_weight object_json 20 (omega arith) (λ object. omega arith) o
 
 share_weight : (o : Option Share) → weight (or_null share_json o) ≤ 44
 share_weight o = any_weight share_json 44 (omega arith) (λ share. omega arith) o
@@ -68,24 +65,12 @@ flag_weight o = any_weight json.boolean 5 (omega arith) (λ flag. omega arith) o
 
 -- ---- bodies and commands
 
-right_weight : (unit : ObjectId) (party : Option ObjectId) (code : Words) (share : Option Share) → members_weight (right_members unit party code share) ≤ 60000
-right_weight unit party code share = omega (arith, words_weight code, party_weight party, share_weight share)
+parts_weight : (parts : BodyParts) → members_weight (part_members parts) ≤ 60000
+parts_weight parts =
+    omega (arith, area_weight parts.area, words_weight parts.code, words_weight parts.label, words_weight parts.name, object_weight parts.party, flag_weight parts.required, any_shape_weight parts.shape, share_weight parts.share, spot_weight parts.spot, object_weight parts.unit)
 
 body_weight : (b : Body) → members_weight (body_members b) ≤ 60000
-body_weight (body.Party name code) = omega (arith, words_weight code, name_weight name)
-body_weight (body.Unit name) = omega (arith, name_weight name)
-body_weight (body.Parcel unit label area shape spot) = omega (arith, area_weight area, words_weight label, any_shape_weight shape, spot_weight spot)
-body_weight (body.Right unit party code share) = right_weight unit party code share
-body_weight (body.Responsibility unit party code share) = right_weight unit party code share
-body_weight (body.Restriction unit party code share required) = omega (arith, words_weight code, party_weight party, flag_weight required, share_weight share)
-
-class_length : (class : Class) → length (class_name class) ≤ 14
-class_length class.Party = omega arith
-class_length class.Unit = omega arith
-class_length class.Parcel = omega arith
-class_length class.Right = omega arith
-class_length class.Restriction = omega arith
-class_length class.Responsibility = omega arith
+body_weight b = omega (arith, chosen_weight (class_attributes (class_of b)) (part_members (parts_of b)), parts_weight (parts_of b))
 
 pub beginning_weight : (operation : List ℕ) (object : ObjectId) (first : Day) (b : Body) → length operation ≤ 5 → weight (json.object (beginning_members operation object first b)) ≤ 65536
 beginning_weight operation object first b h = omega (arith, h, class_length (class_of b), body_weight b)

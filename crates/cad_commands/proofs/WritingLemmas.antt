@@ -10,13 +10,15 @@ use Rattle.cad_shape.specs.declared.ring.Ring.{Ring}
 use Rattle.cad_shape.specs.Rings.{corners_of}
 use Rattle.cad_shape.specs.RegionRings.{rings_of}
 use Rattle.cad_versions.specs.declared.object_id.ObjectId.{ObjectId}
-use Rattle.cad_versions.specs.declared.share.Share.{Share}
 use Rattle.cad_versions.specs.declared.words.Words.{Words}
 use Rattle.cad_versions.specs.declared.body.Body.{Body}
-use Rattle.cad_versions.specs.declared.body.Body.TheVariants as body
+use Rattle.cad_versions.specs.declared.body_parts.BodyParts.{BodyParts}
 use Rattle.cad_versions.specs.declared.command.Command.{Command}
 use Rattle.cad_versions.specs.declared.command.Command.TheVariants.{Enter, Amend, Retire}
-use Rattle.cad_commands.specs.Writing.{whole_json, integer_json, object_json, words_json, share_json, point_json, points_json, ring_json, rings_json, outline_in, holes_in, outline_json, holes_json, or_null, right_members, body_members, command_members, command_text}
+use Rattle.cad_versions.specs.BodyParts.{parts_of}
+use Rattle.cad_versions.specs.Class.{class_attributes, class_of}
+use Rattle.cad_commands.specs.Writing.{whole_json, integer_json, object_json, words_json, share_json, point_json, points_json, ring_json, rings_json, outline_in, holes_in, outline_json, holes_json, or_null, part_members, body_members, command_members, command_text}
+use Rattle.cad_commands.proofs.ChosenLemmas.{chosen_no_float}
 
 pub points_listed : (points : List Point) → items_of (map point_json points) ≡ points_json points
 points_listed [] = refl
@@ -55,32 +57,28 @@ any_no_float : {X : Type 0} (json_of : X → Data) → ((x : X) → has_float (j
 any_no_float json_of none None = refl
 any_no_float json_of none (Some x) = none x
 
-name_no_float : (o : Option Words) → has_float (or_null words_json o) ≡ false
-name_no_float o = any_no_float words_json (λ w. refl) o
+words_no_float : (o : Option Words) → has_float (or_null words_json o) ≡ false
+words_no_float o = any_no_float words_json (λ w. refl) o
 
-party_no_float : (o : Option ObjectId) → has_float (or_null object_json o) ≡ false
-party_no_float o = any_no_float object_json (λ x. refl) o
+object_no_float : (o : Option ObjectId) → has_float (or_null object_json o) ≡ false
+object_no_float o = any_no_float object_json (λ x. refl) o
 
-share_no_float : (o : Option Share) → has_float (or_null share_json o) ≡ false
-share_no_float o = any_no_float share_json (λ x. refl) o
-
-right_no_float : (unit : ObjectId) (party : Option ObjectId) (code : Words) (share : Option Share) → members_have_float (right_members unit party code share) ≡ false
-right_no_float unit party code share = or_from (has_float (or_null object_json party)) _ (party_no_float party) (or_from (has_float (or_null share_json share)) _ (share_no_float share) refl)
+parts_no_float : (parts : BodyParts) → members_have_float (part_members parts) ≡ false
+parts_no_float parts =
+    or_from (has_float (or_null whole_json parts.area)) _ (any_no_float whole_json (λ n. refl) parts.area)
+    (or_from (has_float (or_null words_json parts.code)) _ (words_no_float parts.code)
+    (or_from (has_float (or_null holes_json parts.shape)) _ (any_no_float holes_json (λ r. holes_no_float (rings_of r)) parts.shape)
+    (or_from (has_float (or_null words_json parts.label)) _ (words_no_float parts.label)
+    (or_from (has_float (or_null words_json parts.name)) _ (words_no_float parts.name)
+    (or_from (has_float (or_null object_json parts.party)) _ (object_no_float parts.party)
+    (or_from (has_float (or_null json.boolean parts.required)) _ (any_no_float json.boolean (λ b. refl) parts.required)
+    (or_from (has_float (or_null outline_json parts.shape)) _ (any_no_float outline_json (λ r. outline_no_float (rings_of r)) parts.shape)
+    (or_from (has_float (or_null share_json parts.share)) _ (any_no_float share_json (λ s. refl) parts.share)
+    (or_from (has_float (or_null point_json parts.spot)) _ (any_no_float point_json point_no_float parts.spot)
+    (or_from (has_float (or_null object_json parts.unit)) _ (object_no_float parts.unit) refl))))))))))
 
 body_no_float : (b : Body) → members_have_float (body_members b) ≡ false
-body_no_float (body.Party name code) = or_from (has_float (or_null words_json name)) _ (name_no_float name) refl
-body_no_float (body.Unit name) = or_from (has_float (or_null words_json name)) _ (name_no_float name) refl
-body_no_float (body.Parcel unit label area shape spot) =
-    or_from (has_float (or_null whole_json area)) _ (any_no_float whole_json (λ n. refl) area)
-    (or_from (has_float (or_null holes_json shape)) _ (any_no_float holes_json (λ r. holes_no_float (rings_of r)) shape)
-    (or_from (has_float (or_null outline_json shape)) _ (any_no_float outline_json (λ r. outline_no_float (rings_of r)) shape)
-    (or_from (has_float (or_null point_json spot)) _ (any_no_float point_json point_no_float spot) refl)))
-body_no_float (body.Right unit party code share) = right_no_float unit party code share
-body_no_float (body.Responsibility unit party code share) = right_no_float unit party code share
-body_no_float (body.Restriction unit party code share required) =
-    or_from (has_float (or_null object_json party)) _ (party_no_float party)
-    (or_from (has_float (or_null json.boolean required)) _ (any_no_float json.boolean (λ b. refl) required)
-    (or_from (has_float (or_null share_json share)) _ (share_no_float share) refl))
+body_no_float b = chosen_no_float (class_attributes (class_of b)) (part_members (parts_of b)) (parts_no_float (parts_of b))
 
 pub command_no_float : (c : Command) → has_float (json.object (command_members c)) ≡ false
 command_no_float (Enter object first b) = or_from (members_have_float (body_members b)) _ (body_no_float b) refl

@@ -19,7 +19,9 @@ use Rattle.cad_versions.specs.BodyParts.{area_in}
 use Rattle.cad_commands.specs.Commands.{Says, SaysBeginning, SaysCommand}
 use Rattle.cad_commands.specs.Laws.{IsSaid}
 use Rattle.cad_commands.specs.Writing.{object_json, day_json, body_members, beginning_members, command_members, IsOneLine}
-use Rattle.cad_commands.proofs.ClassLemmas.{body_said, body_alone, body_plain, body_ascends, class_name_utf8, beginning_ascends, body_depth}
+use Rattle.cad_commands.proofs.ClassLemmas.{body_said}
+use Rattle.cad_commands.proofs.NameLemmas.{class_name_utf8, beginning_ascends}
+use Rattle.cad_commands.proofs.PartLemmas.{body_plain, body_ascends, body_depth}
 use Rattle.cad_commands.proofs.PlainLemmas.{day_plain, object_plain}
 use Rattle.cad_commands.proofs.LengthLemmas.{weight}
 use Rattle.cad_commands.proofs.TextLemmas.{IsPlain, text_utf8, text_is_read, text_lined, text_length}
@@ -31,7 +33,7 @@ IsReadBack day = day_named (day_text (number_of day)) ≡ Some (number_of day)
 
 beginning_said : (operation : List ℕ) (object : ObjectId) (first : Day) (b : Body) → IsReadBack first → ForSome (area_in b) (λ n. n < 2 ^ 32) → SaysBeginning (beginning_members operation object first b) (object, first, b)
 beginning_said operation object first b back small =
-    (refl, back, (class_of b, body_members b, body_alone (class_of b) (json.string operation) (day_json first) (object_json object) (json.object (body_members b)), body_said b small))
+    (refl, back, (class_of b, body_members b, refl, body_said b small))
 
 pub enter_said : (object : ObjectId) (first : Day) (b : Body) → IsReadBack first → ForSome (area_in b) (λ n. n < 2 ^ 32) → SaysCommand (command_members (Enter object first b)) (Enter object first b)
 enter_said object first b back small = (refl, beginning_said (codes "enter") object first b back small)

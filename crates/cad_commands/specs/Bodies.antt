@@ -1,33 +1,14 @@
 -- Bodies of versions as JSON objects, by class (own profile).
-use Rattle.std.specs.Prelude.{◌≡◌, ℕ, List, [], ◌∷◌, codes, Option}
+use Rattle.std.specs.Prelude.{◌≡◌, codes, Option}
 use Rattle.serde_json.specs.Data.{Members}
 use Rattle.cad_shape.specs.declared.polygon.Region.{Region}
 use Rattle.cad_versions.specs.declared.body.Body.{Body}
 use Rattle.cad_versions.specs.declared.body.Class.{Class}
-use Rattle.cad_versions.specs.declared.body.Class.TheVariants as class
 use Rattle.cad_versions.specs.declared.body_parts.BodyParts.{BodyParts}
-use Rattle.cad_versions.specs.Class.{class_of}
+use Rattle.cad_versions.specs.Class.{class_attributes, class_of}
 use Rattle.cad_versions.specs.BodyParts.{parts_of}
 use Rattle.cad_commands.specs.Members.{MayHave, AreOnly, member_in}
 use Rattle.cad_commands.specs.Values.{IsWholeOf, IsObjectOf, IsWordsOf, IsFlagOf, IsShareOf, IsPointOf, IsShapeOf}
-
--- the name under which a command has the body of a class
-abbrev pub class_name : Class → List ℕ
-class_name class.Party = codes "party"
-class_name class.Unit = codes "unit"
-class_name class.Parcel = codes "parcel"
-class_name class.Right = codes "right"
-class_name class.Restriction = codes "restriction"
-class_name class.Responsibility = codes "responsibility"
-
--- the members that an object of each class may have (ISO 19152:2012, attributes of the classes)
-abbrev pub members_of : Class → List (List ℕ)
-members_of class.Party = codes "name" ∷ codes "code" ∷ []
-members_of class.Unit = codes "name" ∷ []
-members_of class.Parcel = codes "unit" ∷ codes "label" ∷ codes "area" ∷ codes "shape" ∷ codes "holes" ∷ codes "spot" ∷ []
-members_of class.Right = codes "unit" ∷ codes "party" ∷ codes "code" ∷ codes "share" ∷ []
-members_of class.Restriction = codes "unit" ∷ codes "party" ∷ codes "code" ∷ codes "share" ∷ codes "required" ∷ []
-members_of class.Responsibility = codes "unit" ∷ codes "party" ∷ codes "code" ∷ codes "share" ∷ []
 
 -- the members `shape` and `holes` say the shape
 abbrev pub SaysShape : Members → Option Region → Type 0
@@ -48,4 +29,4 @@ pub record SaysParts (ms : Members) (parts : BodyParts) : Type 0 where
 
 -- the object says the parts of a body of the class, and has no members other than those of the class
 unfoldable pub SaysBody : Members → Class → Body → Type 0
-SaysBody ms class body = (class_of body ≡ class) × SaysParts ms (parts_of body) × AreOnly (members_of class) ms
+SaysBody ms class body = (class_of body ≡ class) × SaysParts ms (parts_of body) × AreOnly (class_attributes class) ms

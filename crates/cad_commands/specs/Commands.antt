@@ -11,11 +11,12 @@ use Rattle.cad_versions.specs.declared.body.Body.{Body}
 use Rattle.cad_versions.specs.declared.body.Class.{Class}
 use Rattle.cad_versions.specs.declared.command.Command.{Command}
 use Rattle.cad_versions.specs.declared.command.Command.TheVariants as command
+use Rattle.cad_versions.specs.Class.{class_name}
 use Rattle.cad_commands.specs.declared.operation.Operation.{Operation}
 use Rattle.cad_commands.specs.declared.operation.Operation.TheVariants.{Enter, Amend, Retire}
 use Rattle.cad_commands.specs.Members.{Has, AreOnly, HasOneOther}
 use Rattle.cad_commands.specs.Values.{IsObjectOf, IsDayOf}
-use Rattle.cad_commands.specs.Bodies.{class_name, SaysBody}
+use Rattle.cad_commands.specs.Bodies.{SaysBody}
 
 abbrev pub operation_name : Operation → List ℕ
 operation_name Enter = codes "enter"

@@ -1,5 +1,6 @@
 -- Commands as the JSON objects that say them, members in byte order of their names (own profile).
-use Rattle.std.specs.Prelude.{◌≡◌, ℕ, ℤ, ◌≤◌, ◌==◌, Bool, true, not, ◌&&◌, List, [], ◌∷◌, length, codes, Option, Some, None}
+use Rattle.std.specs.Prelude.{◌≡◌, ℕ, ℤ, ◌≤◌, ◌==◌, Bool, true, not, ◌&&◌, List, [], ◌∷◌, length, codes, Option, Some, None, bytes_eq, if◌then◌else◌}
+use Rattle.std.specs.List.{list_any}
 use Rattle.serde_json.specs.Data.{Data, Items, no_items, item, Members, no_members, member, unsigned}
 use Rattle.serde_json.specs.Data as json
 use Rattle.serde_json.specs.Find.{of_integer}
@@ -16,14 +17,14 @@ use Rattle.cad_versions.specs.declared.object_id.ObjectId.{ObjectId}
 use Rattle.cad_versions.specs.declared.share.Share.{Share}
 use Rattle.cad_versions.specs.declared.words.Words.{Words}
 use Rattle.cad_versions.specs.declared.body.Body.{Body}
-use Rattle.cad_versions.specs.declared.body.Body.TheVariants as body
+use Rattle.cad_versions.specs.declared.body_parts.BodyParts.{BodyParts}
 use Rattle.cad_versions.specs.declared.command.Command.{Command}
 use Rattle.cad_versions.specs.declared.command.Command.TheVariants.{Enter, Amend, Retire}
 use Rattle.cad_versions.specs.Objects.{object_number}
 use Rattle.cad_versions.specs.Texts.{bytes_of}
 use Rattle.cad_versions.specs.Fractions.{num_of, den_of}
-use Rattle.cad_versions.specs.Class.{class_of}
-use Rattle.cad_commands.specs.Bodies.{class_name}
+use Rattle.cad_versions.specs.Class.{class_attributes, class_name, class_of}
+use Rattle.cad_versions.specs.BodyParts.{parts_of}
 
 -- ---- values
 
@@ -84,22 +85,26 @@ or_null json_of (Some x) = json_of x
 
 -- ---- objects
 
--- the members of a right and of a responsibility
-abbrev pub right_members : ObjectId → Option ObjectId → Words → Option Share → Members
-right_members unit party code share =
-    member (codes "code") (words_json code) (member (codes "party") (or_null object_json party) (member (codes "share") (or_null share_json share) (member (codes "unit") (object_json unit) no_members)))
+-- all members that bodies may have, in byte order of their names; where there is no such part, the value is null
+abbrev pub part_members : BodyParts → Members
+part_members parts =
+    member (codes "area") (or_null whole_json parts.area) (member (codes "code") (or_null words_json parts.code) (member (codes "holes") (or_null holes_json parts.shape)
+    (member (codes "label") (or_null words_json parts.label) (member (codes "name") (or_null words_json parts.name) (member (codes "party") (or_null object_json parts.party)
+    (member (codes "required") (or_null json.boolean parts.required) (member (codes "shape") (or_null outline_json parts.shape) (member (codes "share") (or_null share_json parts.share)
+    (member (codes "spot") (or_null point_json parts.spot) (member (codes "unit") (or_null object_json parts.unit) no_members))))))))))
 
+-- the name is one of these
+abbrev pub is_among : List (List ℕ) → List ℕ → Bool
+is_among names name = list_any (λ other. bytes_eq other name) names
+
+-- the members of these names
+abbrev pub chosen : List (List ℕ) → Members → Members
+chosen names no_members = no_members
+chosen names (member name d ms) = if is_among names name then member name d (chosen names ms) else chosen names ms
+
+-- the members that a body of its class may have (ISO 19152:2012, attributes of the classes)
 abbrev pub body_members : Body → Members
-body_members (body.Party name code) = member (codes "code") (words_json code) (member (codes "name") (or_null words_json name) no_members)
-body_members (body.Unit name) = member (codes "name") (or_null words_json name) no_members
-body_members (body.Parcel unit label area shape spot) =
-    member (codes "area") (or_null whole_json area) (member (codes "holes") (or_null holes_json shape) (member (codes "label") (words_json label)
-    (member (codes "shape") (or_null outline_json shape) (member (codes "spot") (or_null point_json spot) (member (codes "unit") (object_json unit) no_members)))))
-body_members (body.Right unit party code share) = right_members unit party code share
-body_members (body.Responsibility unit party code share) = right_members unit party code share
-body_members (body.Restriction unit party code share required) =
-    member (codes "code") (words_json code) (member (codes "party") (or_null object_json party) (member (codes "required") (or_null json.boolean required)
-    (member (codes "share") (or_null share_json share) (member (codes "unit") (object_json unit) no_members))))
+body_members body = chosen (class_attributes (class_of body)) (part_members (parts_of body))
 
 -- what begins a version
 abbrev pub beginning_members : List ℕ → ObjectId → Day → Body → Members

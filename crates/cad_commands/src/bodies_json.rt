@@ -1,120 +1,66 @@
 //! The JSON object that says a body.
 
-ghost use Rattle.std.specs.Prelude.{◌≡◌, IfOk};
+ghost use Rattle.std.specs.Prelude.{◌≡◌, IfOk, OnOk, map};
 ghost use Rattle.serde_json.specs.Data.{object};
-ghost use Rattle.serde_json.specs.View.{view};
-ghost use Rattle.cad_versions.specs.declared.body.Body.TheVariants.{Party, Unit, Parcel, Right, Restriction, Responsibility};
-ghost use Rattle.cad_commands.specs.Writing.{body_members, right_members};
+ghost use Rattle.serde_json.specs.View.{members_view, view};
+ghost use Rattle.cad_commands.specs.Writing.{body_members};
+ghost use Rattle.cad_commands.specs.inner.Written.{put_chosen};
 
 use crate::values_json::{
-    any_share_json, area_json, flag_json, holes_json, name_json, object_json, party_json,
-    shape_json, spot_json, words_json,
+    any_object_json, any_share_json, any_words_json, area_json, flag_json, holes_json, shape_json,
+    spot_json,
 };
-use cad_shape::{Point, Region};
-use cad_versions::{Body, ObjectId, Share, Words};
-use serde_json::{Value as Json, json};
+use cad_versions::Body;
+use serde_json::{Map, Value as Json};
 use std::alloc::{AllocError, Global};
 
-fn of_party(alloc: Global, name: &Option<Words>, code: &Words) -> Result<Json, AllocError>
-    ensures { IfOk result (λ json. view json ≡ object (body_members (Party name.now code.now))) }
-{
-    let code = words_json(alloc, code)?;
-    let name = name_json(alloc, name)?;
-    json!(in alloc; {"code": code, "name": name})
-}
-
-fn of_unit(alloc: Global, name: &Option<Words>) -> Result<Json, AllocError>
-    ensures { IfOk result (λ json. view json ≡ object (body_members (Unit name.now))) }
-{
-    let name = name_json(alloc, name)?;
-    json!(in alloc; {"name": name})
-}
-
-fn of_parcel(
+/// Adds the member, if its name is one of these.
+fn put_chosen(
+    members: &mut Map<String, Json>,
     alloc: Global,
-    unit: ObjectId,
-    label: &Words,
-    area: Option<u32>,
-    shape: &Option<Region>,
-    spot: Option<Point>,
-) -> Result<Json, AllocError>
-    ensures { IfOk result (λ json. view json ≡ object (body_members (Parcel unit label.now area shape.now spot))) }
+    names: &[&str],
+    name: &str,
+    value: Json,
+) -> Result<(), AllocError>
+    ensures { OnOk result (members_view members.new.entries
+        ≡ put_chosen (map (λ name. name.now) names.now) name.now (view value) (members_view members.old.entries)) }
 {
-    let area = area_json(area);
-    let holes = holes_json(alloc, shape)?;
-    let label = words_json(alloc, label)?;
-    let shape = shape_json(alloc, shape)?;
-    let spot = spot_json(alloc, spot)?;
-    let unit = object_json(unit);
-    json!(in alloc; {"area": area, "holes": holes, "label": label, "shape": shape, "spot": spot, "unit": unit})
+    if names.contains(&name) {
+        serde_json::put(members, alloc, name, value)
+    } else {
+        drop(value);
+        Ok(())
+    }
 }
 
-fn of_right(
-    alloc: Global,
-    unit: ObjectId,
-    party: Option<ObjectId>,
-    code: &Words,
-    share: Option<Share>,
-) -> Result<Json, AllocError>
-    ensures { IfOk result (λ json. view json ≡ object (right_members unit party code.now share)) }
-{
-    let code = words_json(alloc, code)?;
-    let party = party_json(party);
-    let share = any_share_json(alloc, share)?;
-    let unit = object_json(unit);
-    json!(in alloc; {"code": code, "party": party, "share": share, "unit": unit})
-}
-
-fn of_restriction(
-    alloc: Global,
-    unit: ObjectId,
-    party: Option<ObjectId>,
-    code: &Words,
-    share: Option<Share>,
-    required: Option<bool>,
-) -> Result<Json, AllocError>
-    ensures { IfOk result (λ json. view json ≡ object (body_members (Restriction unit party code.now share required))) }
-{
-    let code = words_json(alloc, code)?;
-    let party = party_json(party);
-    let required = flag_json(required);
-    let share = any_share_json(alloc, share)?;
-    let unit = object_json(unit);
-    json!(in alloc; {"code": code, "party": party, "required": required, "share": share, "unit": unit})
-}
-
-/// What the body says, as an object of its class.
+/// What the body says, as an object with the members of its class, in byte order of their names.
 pub(crate) fn body_json(alloc: Global, body: &Body) -> Result<Json, AllocError>
     ensures { IfOk result (λ json. view json ≡ object (body_members body.now)) }
 {
-    match body {
-        Body::Party { name, code } => of_party(alloc, name, code),
-        Body::Unit { name } => of_unit(alloc, name),
-        Body::Parcel {
-            unit,
-            label,
-            area,
-            shape,
-            spot,
-        } => of_parcel(alloc, *unit, label, *area, shape, *spot),
-        Body::Right {
-            unit,
-            party,
-            code,
-            share,
-        } => of_right(alloc, *unit, *party, code, *share),
-        Body::Restriction {
-            unit,
-            party,
-            code,
-            share,
-            required,
-        } => of_restriction(alloc, *unit, *party, code, *share, *required),
-        Body::Responsibility {
-            unit,
-            party,
-            code,
-            share,
-        } => of_right(alloc, *unit, *party, code, *share),
-    }
+    let names = body.class().attributes();
+    let parts = body.parts();
+    let mut members = Map::new(alloc);
+    let area = area_json(parts.area);
+    put_chosen(&mut members, alloc, names, "area", area)?;
+    let code = any_words_json(alloc, parts.code)?;
+    put_chosen(&mut members, alloc, names, "code", code)?;
+    let holes = holes_json(alloc, parts.shape)?;
+    put_chosen(&mut members, alloc, names, "holes", holes)?;
+    let label = any_words_json(alloc, parts.label)?;
+    put_chosen(&mut members, alloc, names, "label", label)?;
+    let name = any_words_json(alloc, parts.name)?;
+    put_chosen(&mut members, alloc, names, "name", name)?;
+    let party = any_object_json(parts.party);
+    put_chosen(&mut members, alloc, names, "party", party)?;
+    let required = flag_json(parts.required);
+    put_chosen(&mut members, alloc, names, "required", required)?;
+    let shape = shape_json(alloc, parts.shape)?;
+    put_chosen(&mut members, alloc, names, "shape", shape)?;
+    let share = any_share_json(alloc, parts.share)?;
+    put_chosen(&mut members, alloc, names, "share", share)?;
+    let spot = spot_json(alloc, parts.spot)?;
+    put_chosen(&mut members, alloc, names, "spot", spot)?;
+    let unit = any_object_json(parts.unit);
+    put_chosen(&mut members, alloc, names, "unit", unit)?;
+    Ok(Json::Object(members))
 }

@@ -1,9 +1,7 @@
 //! Bodies of versions, as JSON objects.
 
-ghost use Rattle.std.specs.Prelude.{◌≡◌, ◌≢◌, map, MatchOption};
 ghost use Rattle.serde_json.specs.View.{members_view};
-ghost use Rattle.cad_versions.specs.declared.body.Class.{Class as ClassOf};
-ghost use Rattle.cad_commands.specs.Bodies.{SaysBody, SaysParts, class_name, members_of as names_of};
+ghost use Rattle.cad_commands.specs.Bodies.{SaysBody, SaysParts};
 ghost use Rattle.cad_commands.specs.Commands.{SaysOneBody};
 ghost use Rattle.cad_commands.specs.Reading.{IsRead};
 
@@ -18,37 +16,9 @@ pub(crate) fn body(alloc: Global, members: Members) -> Result<Body, CommandError
     ensures { IsRead (SaysOneBody (members_view members.map.entries)) result }
 {
     let (name, value) = members.one_other(&["do", "object", "first"])?;
-    let class = class_named(name.as_str()).ok_or(CommandError::NotACommand)?;
+    let class = Class::named(name.as_str()).ok_or(CommandError::NotACommand)?;
     let members = Members::of(value)?;
     body_of(alloc, class, members)
-}
-
-fn class_named(name: &str) -> Option<Class>
-    ensures { MatchOption result ((class : ClassOf) → name.now ≢ class_name class)
-        (λ class. name.now ≡ class_name class) }
-{
-    match name {
-        "party" => Some(Class::Party),
-        "unit" => Some(Class::Unit),
-        "parcel" => Some(Class::Parcel),
-        "right" => Some(Class::Right),
-        "restriction" => Some(Class::Restriction),
-        "responsibility" => Some(Class::Responsibility),
-        _ => None,
-    }
-}
-
-/// The members that an object of the class may have.
-fn members_of(class: Class) -> &'static [&'static str]
-    ensures { map (λ name. name.now) result.now ≡ names_of class }
-{
-    match class {
-        Class::Party => &["name", "code"],
-        Class::Unit => &["name"],
-        Class::Parcel => &["unit", "label", "area", "shape", "holes", "spot"],
-        Class::Right | Class::Responsibility => &["unit", "party", "code", "share"],
-        Class::Restriction => &["unit", "party", "code", "share", "required"],
-    }
 }
 
 /// What the members say, part by part.
@@ -85,7 +55,7 @@ fn body_of(alloc: Global, class: Class, members: Members) -> Result<Body, Comman
     ensures { IsRead (SaysBody (members_view members.map.entries) class) result }
 {
     let parts = parts(alloc, &members)?;
-    members.only(members_of(class))?;
+    members.only(class.attributes())?;
     match Body::from_parts(class, parts) {
         Some(body) => Ok(body),
         None => Err(CommandError::NotACommand),

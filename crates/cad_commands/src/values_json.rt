@@ -1,6 +1,7 @@
 //! The JSON value that says each part of a command.
 
 ghost use Rattle.std.specs.Prelude.{◌≡◌, IfOk};
+ghost use Rattle.std.specs.Option.{option_copied};
 ghost use Rattle.serde_json.specs.Data.{array, boolean};
 ghost use Rattle.serde_json.specs.View.{view};
 ghost use Rattle.cad_commands.specs.Writing as written;
@@ -25,7 +26,7 @@ pub(crate) fn object_json(object: ObjectId) -> Json
     Json::from(object.number())
 }
 
-pub(crate) fn words_json(alloc: Global, words: &Words) -> Result<Json, AllocError>
+fn words_json(alloc: Global, words: &Words) -> Result<Json, AllocError>
     ensures { IfOk result (λ json. view json ≡ written.words_json words.now) }
 {
     Json::try_from_str(alloc, words.as_str())
@@ -84,19 +85,19 @@ fn region_holes_json(alloc: Global, region: &Region) -> Result<Json, AllocError>
     }
 }
 
-pub(crate) fn name_json(alloc: Global, name: &Option<Words>) -> Result<Json, AllocError>
-    ensures { IfOk result (λ json. view json ≡ written.or_null written.words_json name.now) }
+pub(crate) fn any_words_json(alloc: Global, words: Option<&Words>) -> Result<Json, AllocError>
+    ensures { IfOk result (λ json. view json ≡ written.or_null written.words_json (option_copied words.entry)) }
 {
-    match name {
+    match words {
         None => Ok(Json::Null),
         Some(words) => words_json(alloc, words),
     }
 }
 
-pub(crate) fn party_json(party: Option<ObjectId>) -> Json
-    ensures { view result ≡ written.or_null written.object_json party }
+pub(crate) fn any_object_json(object: Option<ObjectId>) -> Json
+    ensures { view result ≡ written.or_null written.object_json object }
 {
-    match party {
+    match object {
         None => Json::Null,
         Some(object) => object_json(object),
     }
@@ -138,8 +139,8 @@ pub(crate) fn flag_json(flag: Option<bool>) -> Json
     }
 }
 
-pub(crate) fn shape_json(alloc: Global, shape: &Option<Region>) -> Result<Json, AllocError>
-    ensures { IfOk result (λ json. view json ≡ written.or_null written.outline_json shape.now) }
+pub(crate) fn shape_json(alloc: Global, shape: Option<&Region>) -> Result<Json, AllocError>
+    ensures { IfOk result (λ json. view json ≡ written.or_null written.outline_json (option_copied shape.entry)) }
 {
     match shape {
         None => Ok(Json::Null),
@@ -147,8 +148,8 @@ pub(crate) fn shape_json(alloc: Global, shape: &Option<Region>) -> Result<Json, 
     }
 }
 
-pub(crate) fn holes_json(alloc: Global, shape: &Option<Region>) -> Result<Json, AllocError>
-    ensures { IfOk result (λ json. view json ≡ written.or_null written.holes_json shape.now) }
+pub(crate) fn holes_json(alloc: Global, shape: Option<&Region>) -> Result<Json, AllocError>
+    ensures { IfOk result (λ json. view json ≡ written.or_null written.holes_json (option_copied shape.entry)) }
 {
     match shape {
         None => Ok(Json::Null),

@@ -4,30 +4,15 @@ ghost use Rattle.std.specs.Prelude.{◌≡◌, IfOk, string_bytes};
 ghost use Rattle.serde_json.specs.Data.{object as object_of};
 ghost use Rattle.serde_json.specs.View.{view};
 ghost use Rattle.cad_versions.specs.declared.command.Command.TheVariants.{Retire};
-ghost use Rattle.cad_commands.specs.Bodies.{class_name as named};
 ghost use Rattle.cad_commands.specs.Writing.{beginning_members, command_members, command_text};
 ghost use Rattle.cad_commands.specs.inner.Written.{beside_body, with_one};
 
 use crate::bodies_json::body_json;
 use crate::values_json::{day_json, object_json};
 use cad_day::Day;
-use cad_versions::{Body, Class, Command, ObjectId};
+use cad_versions::{Body, Command, ObjectId};
 use serde_json::{Value as Json, json};
 use std::alloc::{AllocError, Global};
-
-/// The name under which a command has the body of a class.
-fn class_name(class: Class) -> &'static str
-    ensures { result.now ≡ named class }
-{
-    match class {
-        Class::Party => "party",
-        Class::Unit => "unit",
-        Class::Parcel => "parcel",
-        Class::Right => "right",
-        Class::Restriction => "restriction",
-        Class::Responsibility => "responsibility",
-    }
-}
 
 /// The object without the body.
 fn without_body(
@@ -71,7 +56,7 @@ fn beginning_json(
 {
     let outer = without_body(alloc, operation, object, first)?;
     let inner = body_json(alloc, body)?;
-    with_member(alloc, outer, class_name(body.class()), inner)
+    with_member(alloc, outer, body.class().name(), inner)
 }
 
 fn retirement_json(alloc: Global, object: ObjectId, last: Day) -> Result<Json, AllocError>

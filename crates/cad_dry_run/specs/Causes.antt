@@ -10,10 +10,10 @@ use Rattle.cad_shape.specs.Rings.{IsRingFault}
 use Rattle.cad_shape.specs.RegionRings.{IsRegionFault}
 use Rattle.cad_versions.specs.declared.body.Class.{Class}
 use Rattle.cad_versions.specs.declared.command.Command.{Command}
+use Rattle.cad_versions.specs.Class.{class_attributes, class_name}
 use Rattle.cad_commands.specs.declared.operation.Operation.TheVariants.{Retire}
 use Rattle.cad_commands.specs.Members.{Has, HasOneOther, member_in, without_all}
 use Rattle.cad_commands.specs.Values.{ArePointsOf, IsRingOf, MayHaveHoles}
-use Rattle.cad_commands.specs.Bodies.{class_name, members_of}
 use Rattle.cad_commands.specs.Commands.{IsOperationOf, names_beside}
 use Rattle.cad_office.specs.Keeping.{Asks}
 use Rattle.cad_office.specs.Lines.{longest_line}
@@ -72,7 +72,7 @@ IsWrongOf ms (object.TwoBodies one other) =
 IsWrongOf ms (object.BodyNotAnObject class) = (d : Data) × HasBody ms class d × (as_object d ≡ None)
 IsWrongOf ms (object.InBody class why) = (d : Data) × (inner : Members) × HasBody ms class d × (as_object d ≡ Some inner) × IsWrongIn inner why
 IsWrongOf ms (object.UnknownInBody class name) =
-    (d : Data) × (inner : Members) × HasBody ms class d × (as_object d ≡ Some inner) × HasName (string_bytes name) (without_all (members_of class) inner)
+    (d : Data) × (inner : Members) × HasBody ms class d × (as_object d ≡ Some inner) × HasName (string_bytes name) (without_all (class_attributes class) inner)
 
 -- the cause is true of the line
 abbrev pub IsCauseOf : List ℕ → Cause → Type 0

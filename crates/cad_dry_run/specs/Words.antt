@@ -5,7 +5,7 @@ use Rattle.cad_shape.specs.declared.ring.RingFault.{RingFault}
 use Rattle.cad_shape.specs.declared.ring.RingFault.TheVariants as outline
 use Rattle.cad_shape.specs.declared.polygon.RegionFault.{RegionFault}
 use Rattle.cad_shape.specs.declared.polygon.RegionFault.TheVariants as region
-use Rattle.cad_commands.specs.Bodies.{class_name}
+use Rattle.cad_versions.specs.Class.{class_name}
 use Rattle.cad_dry_run.specs.declared.cause.ValueFault.{ValueFault}
 use Rattle.cad_dry_run.specs.declared.cause.ValueFault.TheVariants as fault
 use Rattle.cad_dry_run.specs.declared.cause.RingCause.{RingCause}

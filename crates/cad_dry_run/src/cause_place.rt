@@ -2,7 +2,6 @@
 
 ghost use Rattle.std.specs.Prelude.{◌≤◌, length, IfOk};
 
-use crate::body::name_of;
 use crate::cause::{Cause, MemberCause, ObjectCause, RingCause};
 use crate::place::{Step, find, find_from};
 use cad_shape::RegionFault;
@@ -47,8 +46,8 @@ fn object_place(alloc: Global, line: &[u8], cause: &ObjectCause) -> Result<usize
 fn second_place(alloc: Global, line: &[u8], one: Class, other: Class) -> Result<usize, AllocError>
     ensures { IfOk result (λ place. place ≤ length line.now) }
 {
-    let left = find(alloc, line, &[Step::Name(name_of(one).as_bytes())])?;
-    let right = find(alloc, line, &[Step::Name(name_of(other).as_bytes())])?;
+    let left = find(alloc, line, &[Step::Name(one.name().as_bytes())])?;
+    let right = find(alloc, line, &[Step::Name(other.name().as_bytes())])?;
     if left < right { Ok(right) } else { Ok(left) }
 }
 
@@ -127,5 +126,5 @@ fn ring_place(
 fn body_place(alloc: Global, line: &[u8], class: Class) -> Result<usize, AllocError>
     ensures { IfOk result (λ place. place ≤ length line.now) }
 {
-    find(alloc, line, &[Step::Member(name_of(class).as_bytes())])
+    find(alloc, line, &[Step::Member(class.name().as_bytes())])
 }

@@ -7,7 +7,7 @@ ghost use Rattle.serde_json.specs.View.{members_view, view};
 ghost use Rattle.cad_dry_run.specs.Causes.{HasBody, IsOfRetirement};
 ghost use Rattle.cad_dry_run.specs.inner.Stops.{StopsObject};
 
-use crate::body::{check_members, class_named, members_of};
+use crate::body::check_members;
 use crate::cause::ObjectCause;
 use crate::member_name::MemberName;
 use crate::members::{Members, check_required, object, retires, without};
@@ -49,12 +49,12 @@ fn check_bodies(alloc: Global, members: Members) -> Result<(), ObjectStop>
     let Some((name, value)) = others.pop_first() else {
         return Err(ObjectStop::Cause(ObjectCause::NoBody));
     };
-    let Some(class) = class_named(name.as_str()) else {
+    let Some(class) = Class::named(name.as_str()) else {
         return Err(ObjectStop::Cause(ObjectCause::UnknownBeside(name)));
     };
     match others.pop_first() {
         None => check_body(alloc, class, value),
-        Some((other, _)) => match class_named(other.as_str()) {
+        Some((other, _)) => match Class::named(other.as_str()) {
             Some(second) => Err(ObjectStop::Cause(ObjectCause::TwoBodies(class, second))),
             None => Err(ObjectStop::Cause(ObjectCause::UnknownBeside(other))),
         },
@@ -82,7 +82,7 @@ fn check_known(class: Class, members: Members) -> Result<(), ObjectStop>
     ensures { (outer : MembersOf) (d : Data) → HasBody outer class d → as_object d ≡ Some (members_view members.entries) →
         IfErr result (StopsObject outer) }
 {
-    let mut others = without(members, members_of(class));
+    let mut others = without(members, class.attributes());
     match others.pop_first() {
         Some((name, _)) => Err(ObjectStop::Cause(ObjectCause::UnknownInBody(class, name))),
         None => Ok(()),

@@ -13,7 +13,6 @@ ghost use Rattle.cad_dry_run.specs.Words.{
   unknown_text,
 };
 
-use crate::body::name_of;
 use crate::cause::{Cause, Explanation, MemberCause, ObjectCause, RingCause, ValueFault};
 use cad_shape::{RegionFault, RingFault};
 use serde_json::Value;
@@ -56,18 +55,14 @@ fn put_object(alloc: Global, text: &mut String, cause: &ObjectCause) -> Result<(
         ObjectCause::UnknownAtEnd(name) => put_unknown(alloc, text, name),
         ObjectCause::UnknownBeside(name) => put_unknown(alloc, text, name),
         ObjectCause::NoBody => text.push_str("no body"),
-        ObjectCause::TwoBodies(one, other) => put_names(text, name_of(*one), name_of(*other)),
-        ObjectCause::BodyNotAnObject(class) => put_two_texts(
-            text,
-            name_of(*class),
-            ": not an object",
-        ),
+        ObjectCause::TwoBodies(one, other) => put_names(text, one.name(), other.name()),
+        ObjectCause::BodyNotAnObject(class) => put_two_texts(text, class.name(), ": not an object"),
         ObjectCause::InBody(class, cause) => {
-            put_two_texts(text, name_of(*class), ".")?;
+            put_two_texts(text, class.name(), ".")?;
             put_member(text, *cause)
         }
         ObjectCause::UnknownInBody(class, name) => {
-            put_two_texts(text, name_of(*class), ".")?;
+            put_two_texts(text, class.name(), ".")?;
             put_unknown(alloc, text, name)
         }
     }

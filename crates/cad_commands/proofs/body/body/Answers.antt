@@ -2,7 +2,7 @@ use Rattle.std.proofs.Common.{◌≡◌, Some, ap}
 use Rattle.serde_json.specs.Data.{object}
 use Rattle.serde_json.specs.Find.{as_object}
 use Rattle.serde_json.specs.View.{members_view, view}
-use Rattle.cad_commands.specs.Bodies.{class_name}
+use Rattle.cad_versions.specs.Class.{class_name}
 use Rattle.cad_commands.specs.Commands.{names_beside, SaysOneBody}
 use Rattle.cad_commands.specs.Members.{HasOneOther}
 use Rattle.cad_commands.proofs.CommandLemmas.{one_value}
