@@ -1,8 +1,10 @@
 -- The line `status`, and its answer as JSON, members in byte order of their names (own profile).
-use Rattle.std.specs.Prelude.{◌≡◌, ℕ, List, ◌++◌, codes, Option, None, Some}
+use Rattle.std.specs.Prelude.{◌≡◌, ℕ, List, ◌++◌, fold, zip, codes, Option, None, Some}
 use Rattle.hex.specs.Hex.{encode_lower}
-use Rattle.serde_json.specs.Data.{Data, null, number, string, unsigned, object, member, no_members}
+use Rattle.serde_json.specs.Data.{Data, null, number, string, unsigned, object, Members, member, no_members, put}
 use Rattle.serde_json.specs.Written.{compact_text}
+use Rattle.cad_versions.specs.declared.body.Class.{Class}
+use Rattle.cad_versions.specs.Class.{classes, class_name}
 use Rattle.cad_commands.specs.declared.chain.Chain.{Chain}
 use Rattle.cad_commands.specs.Chains.{digest_of}
 use Rattle.cad_stream.specs.declared.responder.Responder.{Ghosts}
@@ -26,14 +28,13 @@ abbrev pub chain_or_null : Option Chain → Data
 chain_or_null None = null
 chain_or_null (Some chain) = string (encode_lower (digest_of chain))
 
+-- the members, and one more for a class, in byte order of the names
+abbrev pub with_count : Members → Class × ℕ → Members
+with_count members counted = put (class_name counted.0) (whole counted.1) members
+
+-- the count of each class under its name
 abbrev pub versions_data : VersionCounts → Data
-versions_data counts =
-    object (member (codes "parcel") (whole counts.parcels)
-    (member (codes "party") (whole counts.parties)
-    (member (codes "responsibility") (whole counts.responsibilities)
-    (member (codes "restriction") (whole counts.restrictions)
-    (member (codes "right") (whole counts.rights)
-    (member (codes "unit") (whole counts.units) no_members))))))
+versions_data counts = object (fold with_count no_members (zip classes counts.of_each))
 
 abbrev pub versions_or_null : Option VersionCounts → Data
 versions_or_null None = null

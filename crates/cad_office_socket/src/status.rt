@@ -7,8 +7,9 @@ ghost use Rattle.cad_office_socket.specs.Statuses.{chain_or_null, clients_data, 
 use crate::figures::{ClientCounts, CommandCounts, Figures, ReplyCounts};
 use cad_commands::Chain;
 use cad_stream::{Summary, VersionCounts};
+use cad_versions::Class;
 use hex::encode;
-use serde_json::{Value as Json, json};
+use serde_json::{Map, Value as Json, json};
 use std::alloc::{AllocError, Global};
 
 /// What the register holds, and what the service did since its start.
@@ -41,8 +42,11 @@ fn chain_json(alloc: Global, chain: &Option<Chain>) -> Result<Json, AllocError>
 fn counts_json(alloc: Global, counts: &VersionCounts) -> Result<Json, AllocError>
     ensures { IfOk result (λ json. view json ≡ versions_data counts.now) }
 {
-    json!(in alloc; {"parcel": counts.parcels, "party": counts.parties, "responsibility": counts.responsibilities,
-        "restriction": counts.restrictions, "right": counts.rights, "unit": counts.units})
+    let mut members = Map::new(alloc);
+    for (class, count) in Class::ALL.iter().zip(&counts.of_each) {
+        serde_json::put(&mut members, alloc, class.name(), Json::from(*count))?;
+    }
+    Ok(Json::Object(members))
 }
 
 fn versions_json(alloc: Global, counts: &Option<VersionCounts>) -> Result<Json, AllocError>

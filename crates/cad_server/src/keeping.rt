@@ -135,12 +135,7 @@ fn counts_of(histories: &Histories) -> VersionCounts
     ensures { (commands : List CommandOf) → AreAccepted [] commands → AreAllRowsOf commands histories.now → AreCountsOf (as_of (length commands) commands) result }
 {
     VersionCounts {
-        parties: count_of(histories, Collection::Parties),
-        units: count_of(histories, Collection::Units),
-        parcels: count_of(histories, Collection::Parcels),
-        rights: count_of(histories, Collection::Rights),
-        restrictions: count_of(histories, Collection::Restrictions),
-        responsibilities: count_of(histories, Collection::Responsibilities),
+        of_each: Collection::ALL.map(|collection| count_of(histories, collection)),
     }
 }
 
