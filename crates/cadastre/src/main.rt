@@ -1,10 +1,6 @@
 //! The cadastre feature server.
 //!
-//! - `land`: the land office, and one connection served, over a register file
-//! - `listening`: connections taken at an address, over a register file
-//! - `sampling`: one connection served over the sample register, in a database in memory
-//!
-//! What a command line asks for, the same work over any ledger, and how a run ends are in `cadastre_run`.
+//! What a command line asks for, the work that it asks for, and how a run ends are in `cadastre_run`.
 //!
 //! - `cadastre sample` serves standard input over the sample register;
 //! - `cadastre ask land.db` serves it over the register of a file;
@@ -12,16 +8,9 @@
 //! - `cadastre office land.db` enters the commands of standard input into it, and makes the register if it does not exist.
 #![tactic(auto)]
 
-mod land;
-mod listening;
-mod sampling;
-
 use cad_io::{Counted, CountedWriter};
 use cad_serve::{read_words, tell};
-use cadastre_run::{Command, Outcome, Service};
-use land::{close, run_ask, run_office};
-use listening::run_serve;
-use sampling::run_sample;
+use cadastre_run::{Command, Outcome, Service, close, run_ask, run_office, run_sample, run_serve};
 use sqlite::Unknown;
 use std::process::ExitCode;
 

@@ -4,4 +4,9 @@ pub mod Serving
 pub mod Preparing
 pub mod Listening
 pub mod Entering
+pub mod FileAsking
+pub mod FileEntering
+pub mod FileListening
+pub mod FileRuns
+pub mod Sampling
 pub mod lemmas

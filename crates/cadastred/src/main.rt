@@ -1,11 +1,7 @@
 //! The cadastre feature server for many clients, and the land office, in one process.
 //!
-//! - `land`: serves clients and the land office over a register file
-//! - `journal`: prints the journal of a register file
-//! - `checking`: checks lines on a copy of a register file
-//! - `words`: what the program prints about itself
-//!
-//! `cadastred_run` reads the command line, does the same work over any ledger, and says how a run ends.
+//! `words` prints what the program says of itself. `cadastred_run` reads the command line, does the work over the register of a file, and says
+//! how a run ends.
 //!
 //! - `cadastred land.db 127.0.0.1:8080 office.sock` serves the register of a file at an address, to many clients at once. It also
 //!   takes the land office's lines at a Unix socket. If there is no register, it makes one. It prints `listening ADDRESS`, and
@@ -18,17 +14,11 @@
 //! - `cadastred --help` and `cadastred --version` print the usage and the version.
 #![tactic(auto)]
 
-mod checking;
-mod journal;
-mod land;
 mod words;
 
 use cad_io::Counted;
 use cad_serve::{read_words, tell};
-use cadastred_run::{Invocation, Outcome};
-use checking::run_check;
-use journal::run_journal;
-use land::{close, run_service};
+use cadastred_run::{Invocation, Outcome, close, run_check, run_journal, run_service};
 use sqlite::Unknown;
 use std::process::ExitCode;
 use words::{Work, begin};

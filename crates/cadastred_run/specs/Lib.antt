@@ -5,4 +5,10 @@ pub mod Journals
 pub mod Chaining
 pub mod Hosting
 pub mod Checking
+pub mod FileChecking
+pub mod FileHosting
+pub mod FileJournal
+pub mod Keeping
+pub mod Reading
+pub mod Readings
 pub mod inner

@@ -1,0 +1,6 @@
+use Rattle.sqlite.specs.WalFiles.{image_at}
+use Rattle.cad_register.specs.lemmas.RunningLemmas.{runs_in_file}
+use Rattle.cadastre_run.proofs.file_listening.run_serve.Goals as goal
+
+pub returns-clause-ran : goal.returns-clause-ran
+returns-clause-ran g c = runs_in_file (image_at g.S.Start) _ c.in_ok-connection.connection _ c.in_ok-connection.ensures.found c.serve_over.ensures
