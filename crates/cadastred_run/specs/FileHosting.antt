@@ -73,12 +73,12 @@ module _ (before after : Option (List ℕ)) (image : Image) where
   Serves service ended = (asked : SocketAddr) × IsSocketText service.address.now asked × HostsInFile asked ended
 
 -- how a run ends that hosts nothing: a socket is not opened, the system refuses, or the file is not opened
-abbrev pub IsUnhosted : Outcome → Type 0
-IsUnhosted outcome.Address = ⊤
-IsUnhosted outcome.Office = ⊤
-IsUnhosted outcome.Failed = ⊤
-IsUnhosted (outcome.Register fault) = IsOpeningFault fault
-IsUnhosted other = ⊥
+abbrev pub EndsUnopened : Outcome → Type 0
+EndsUnopened outcome.Address = ⊤
+EndsUnopened outcome.Office = ⊤
+EndsUnopened outcome.Failed = ⊤
+EndsUnopened (outcome.Register fault) = IsOpeningFault fault
+EndsUnopened other = ⊥
 
 -- how a run over a file ends: as its work did, or as it ended without one
 abbrev pub outcome_of_run : {C : Type 0} → Result (Outcome × C) Outcome → Outcome

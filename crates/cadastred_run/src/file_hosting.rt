@@ -5,7 +5,7 @@ ghost use Rattle.sqlite.specs.WalFiles.{image_at};
 ghost use Rattle.cad_register.specs.Opening.{OpenedOrCreated};
 ghost use Rattle.cad_register.specs.Running.{RunsOver};
 ghost use Rattle.cadastred_run.specs.Doors.{address_requested};
-ghost use Rattle.cadastred_run.specs.FileHosting.{HostsRegister, HostsFound, HostsOpened, HostsInFile, Serves, IsUnhosted, outcome_of_run};
+ghost use Rattle.cadastred_run.specs.FileHosting.{HostsRegister, HostsFound, HostsOpened, HostsInFile, Serves, EndsUnopened, outcome_of_run};
 
 use crate::doors::{Doors, remove_door};
 use crate::hosting::{host_over, open_doors};
@@ -75,7 +75,7 @@ fn host_opened<N: Network, S: Start, W: Write, A: AccessLog<N::Socket>>(
     log: &mut A,
 ) -> Ran<S>
     ensures hosted { IfOk result (HostsOpened asked (W.contents writer.old) (W.contents writer.new) (N.history net.old) (N.history net.new) (log.new ≡ log.old) (image_at S.Start)) }
-    ensures unhosted { IfErr result (λ outcome. IsUnhosted outcome × (writer.new ≡ writer.old)) }
+    ensures unhosted { IfErr result (λ outcome. EndsUnopened outcome × (writer.new ≡ writer.old)) }
 {
     let connection = match open_file(rt, service.file, start) {
         Ok(connection) => connection,
@@ -102,7 +102,7 @@ fn host_file<S: Start, W: Write>(
     writer: &mut W,
 ) -> Ran<S>
     ensures hosted { IfOk result (HostsInFile (W.contents writer.old) (W.contents writer.new) (image_at S.Start) (address_requested doors)) }
-    ensures unhosted { IfErr result (λ outcome. IsUnhosted outcome × (writer.new ≡ writer.old)) }
+    ensures unhosted { IfErr result (λ outcome. EndsUnopened outcome × (writer.new ≡ writer.old)) }
 {
     let errors = if service.logs {
         Some(rt.stderr())
@@ -128,7 +128,7 @@ pub fn run_service<S: Start, W: Write>(
     writer: &mut W,
 ) -> Ran<S>
     ensures served { IfOk result (Serves (W.contents writer.old) (W.contents writer.new) (image_at S.Start) service.entry) }
-    ensures unserved { IfErr result (λ outcome. IsUnhosted outcome × (writer.new ≡ writer.old)) }
+    ensures unserved { IfErr result (λ outcome. EndsUnopened outcome × (writer.new ≡ writer.old)) }
 {
     let doors = match open_doors(rt, service) {
         Ok(doors) => doors,
