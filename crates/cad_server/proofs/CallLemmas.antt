@@ -1,6 +1,6 @@
 -- What the calls of records and servers do, from what the calls inside them do.
-use Rattle.std.proofs.Common.{◌≡◌, ◌≤◌, ◌⊎◌, inl, inr, ℕ, ℤ, Bool, List, [], length, map, Option, Some, None, Result, Ok, Err, refl, sym, ap, ◌∙◌, subst}
-use Rattle.std.specs.Prelude.{string_bytes, Vec}
+use Rattle.std.proofs.Common.{◌≡◌, ◌≤◌, ◌⊎◌, inl, inr, ℕ, ℤ, Bool, List, [], length, map, Option, Some, None, Result, Ok, Err, refl, sym, ap, ap₂, ◌∙◌, subst, arith, true, true≢false}
+use Rattle.std.specs.Prelude.{if◌then◌else◌, string_bytes, Vec}
 use Rattle.std.specs.Global.{Global}
 use Rattle.cad_versions.specs.declared.command.Command.{Command}
 use Rattle.cad_versions.specs.declared.fault.RegisterFault.{RegisterFault}
@@ -10,7 +10,8 @@ use Rattle.cad_stream.specs.lemmas.KeepingLemmas.{names_by}
 use Rattle.cad_versions.specs.declared.ledger.Ledger.{Ghosts}
 use Rattle.cad_versions.specs.AsOf.{all_entries, as_of}
 use Rattle.cad_versions.specs.Entries.{Entry, version_in}
-use Rattle.cad_versions.specs.HistoryLedgers.{ListsEntries}
+use Rattle.cad_versions.specs.Ledgers.{Listed}
+use Rattle.cad_versions.specs.VersionedObject.{VersionedObject}
 use Rattle.cad_versions.specs.Refusals.{AreAccepted}
 use Rattle.cad_history.specs.Histories.{AreAllRowsOf, RegisterRows}
 use Rattle.cad_history.specs.Snapshots.{IsSnapshotOf, RevisionFeatures}
@@ -31,7 +32,7 @@ use Rattle.cad_server.specs.Replies.{reply_of, IsReply, Asks, FailsToAnswer}
 use Rattle.cad_server.specs.declared.snapshot_cache.SnapshotCache.{SnapshotCache}
 use Rattle.cad_server.specs.declared.totals.Totals.{Totals}
 use Rattle.cad_server.specs.Keeping.{AreTotalsOf, IsCached, KeepsOf, KeepsOnly, StaysCached, StaysWith, cached_at, rows_in}
-use Rattle.cad_server.specs.Servers.{ledger_in, ledger_of, AreRecordsOf, IsServerOf, RefusesToAnswer, DamagedForReading, DamagedForTelling, DamagedForAnswer, Prepares, Recalls, Finds, Tells}
+use Rattle.cad_server.specs.Servers.{is_damage, ledger_in, ledger_of, revision_listed, AreRecordsOf, IsServerOf, RefusesToAnswer, DamagedForReading, DamagedForTelling, DamagedForAnswer, ListsRows, MakesSnapshot, Prepares, ReadsListed, Recalls, Finds, Tells}
 use Rattle.cad_server.proofs.ContentLemmas.{content_at}
 use Rattle.cad_server.proofs.HighestLemmas.{highest_stored}
 use Rattle.cad_server.proofs.KeptLemmas.{keeps_only, kept_found, kept_with, stays_kept}
@@ -54,6 +55,7 @@ module _ {L : Type 0} (g : Ghosts L) where
     response = tt;
     none = λ e. none;
     same = refl;
+    damaged = refl;
     kept = stays old.kept;
   }
 
@@ -62,20 +64,22 @@ module _ {L : Type 0} (g : Ghosts L) where
     response = tt;
     none = tt;
     same = refl;
+    damaged = refl;
     kept = stays old.kept;
   })
 
   some_not_none : (response : Response) → ¬ (Some response ≡ None)
   some_not_none response e = absurd cc
 
-  pub recalls_some : {E : Type 0} (revision : ℕ) (sought : FeatureRequest) (old new : Records L) (snapshot : RevisionFeatures) (response : Response) → ledger_in new ≡ ledger_in old
+  pub recalls_some : {E : Type 0} (revision : ℕ) (sought : FeatureRequest) (old new : Records L) (snapshot : RevisionFeatures) (response : Response) → ledger_in new ≡ ledger_in old → new.is_damaged ≡ old.is_damaged
       → StaysCached old.kept new.kept → Some snapshot ≡ cached_at revision old.kept
       → content_in_response response ≡ content_in sought snapshot → Recalls g {E = E} revision sought old (Ok (Some response)) new
-  recalls_some revision sought old new snapshot response same kept found is = record {
+  recalls_some revision sought old new snapshot response same damaged kept found is = record {
     response = λ commands all.
         is ∙ content_at sought revision (as_of revision commands) snapshot (kept_found commands old.kept.snapshots.entries revision snapshot all.snapshots (sym found)).snapshot;
     none = λ e. absurd (some_not_none response e);
     same = same;
+    damaged = damaged;
     kept = kept;
   }
 
@@ -88,12 +92,37 @@ module _ {L : Type 0} (g : Ghosts L) where
   not_store : (fault : RegisterFault) → fault ≡ Memory → ¬ (fault ≡ Store)
   not_store fault m s = absurd (let e : Memory ≡ Store = sym m ∙ s in cc)
 
-  abbrev pub Lists : L → Result (Vec Entry Global) RegisterFault → L → Type 0
-  Lists old = ListsEntries g.stands_for g.counts g.lives g.fails g.fails_to_list g.refuses_listing g.damaged_for_listing g.remains (g.newest old) old
+  no_damage : (fault : RegisterFault) → fault ≡ Memory → ¬ (is_damage fault ≡ true)
+  no_damage fault m damage = absurd (true≢false (sym damage ∙ ap is_damage m))
+
+  -- want of memory, where the ledger stands for the same commands
+  ran_out : {T : Type 0} (listed : ℕ) (old new : Records L) (fault : RegisterFault) → fault ≡ Memory
+      → (g.counts (ledger_in new) → (commands : List Command) → AreRecordsOf g old commands → AreRecordsOf g new commands)
+      → (g.counts (ledger_in new) → g.counts (ledger_in old)) → ReadsListed g {T = T} listed old (Err fault) new
+  ran_out listed old new fault m kept clean = record {
+    store = λ counts s. absurd (not_store fault m s);
+    damaged = memory_names_none (DamagedForReading g listed old new) fault m;
+    still = λ counts. tt;
+    kept = λ counts. tt;
+    unchanged = λ counts commands records. inl (kept counts commands records);
+    clean = clean;
+  }
+
+  -- what was read is read, whatever would be listed
+  as_read : {T U : Type 0} (listed other : ℕ) (old new : Records L) (t : T) (u : U) → ReadsListed g listed old (Ok t) new → ReadsListed g other old (Ok u) new
+  as_read listed other old new t u reads = record {
+    store = λ counts. tt;
+    damaged = tt;
+    still = reads.still;
+    kept = reads.kept;
+    unchanged = λ counts. tt;
+    clean = reads.clean;
+  }
 
   pub already : RemainsHere → (records : Records L) → ¬ (rows_in records.kept ≡ None) → Prepares g records (Ok tt) records
   already here records some = record {
     ready = some;
+    noted = tt;
     cause = λ counts. tt;
     reads = record {
       store = λ counts. tt;
@@ -105,9 +134,11 @@ module _ {L : Type 0} (g : Ghosts L) where
     };
   }
 
-  pub not_listed : (old new : Records L) (fault : RegisterFault) (given : Result (Unit {0}) RegisterFault) → given ≡ Err fault → new.kept ≡ old.kept → Lists (ledger_in old) (Err fault) (ledger_in new) → Prepares g old given new
-  not_listed old new fault given e same listed = subst (λ (given : Result (Unit {0}) RegisterFault). Prepares g old given new) (sym e) (record {
+  pub not_listed : (old new : Records L) (fault : RegisterFault) (given : Result (Unit {0}) RegisterFault) → given ≡ Err fault → new.kept ≡ old.kept → ListsRows g (ledger_in old) (Err fault) (ledger_in new)
+      → (is_damage fault ≡ true → new.is_damaged ≡ true) → Prepares g old given new
+  not_listed old new fault given e same listed noted = subst (λ (given : Result (Unit {0}) RegisterFault). Prepares g old given new) (sym e) (record {
     ready = tt;
+    noted = noted;
     cause = λ counts commands records. inr (listed.cause counts commands records.ledger);
     reads = record {
       store = λ counts s. listed.store counts (ap Err s);
@@ -124,28 +155,24 @@ module _ {L : Type 0} (g : Ghosts L) where
 
   -- there was no memory for what was listed
   pub nothing_made : (old new : Records L) (entries : Vec Entry Global) (fault : RegisterFault) (given : Result (Unit {0}) RegisterFault) → given ≡ Err fault → fault ≡ Memory → new.kept ≡ old.kept
-      → Lists (ledger_in old) (Ok entries) (ledger_in new) → Prepares g old given new
+      → ListsRows g (ledger_in old) (Ok entries) (ledger_in new) → Prepares g old given new
   nothing_made old new entries fault given e m same listed = subst (λ (given : Result (Unit {0}) RegisterFault). Prepares g old given new) (sym e) (record {
     ready = tt;
+    noted = λ damage. absurd (no_damage fault m damage);
     cause = λ counts commands records. inl m;
-    reads = record {
-      store = λ counts s. absurd (not_store fault m s);
-      damaged = memory_names_none (DamagedForReading g old new) fault m;
-      still = λ counts. tt;
-      kept = λ counts. tt;
-      unchanged = λ counts commands records. inl (record { ledger = listed.same counts commands records.ledger; kept = subst (KeepsOf commands) (sym same) records.kept });
-      clean = listed.clean;
-    };
+    reads = ran_out (g.newest (ledger_in old)) old new fault m
+        (λ counts commands records. record { ledger = listed.same counts commands records.ledger; kept = subst (KeepsOf commands) (sym same) records.kept }) listed.clean;
   })
 
   pub all_made : ((ledger : L) (commands : List Command) → g.stands_for ledger commands → AreAccepted [] commands)
       → (old new : Records L) (entries : Vec Entry Global) (newest : ℕ) (rows : RegisterRows) (totals : Totals) → ((commands : List Command) → g.stands_for (ledger_in old) commands → newest ≡ length commands)
-      → Lists (ledger_in old) (Ok entries) (ledger_in new)
+      → ListsRows g (ledger_in old) (Ok entries) (ledger_in new)
       → ((commands : List Command) → AreAccepted [] commands → entries.items ≡ all_entries commands → newest ≡ length commands → AreAllRowsOf commands rows)
       → totals ≡ record { highest_object = Some (highest_object (map version_in entries.items)); chain = old.kept.totals.chain }
       → KeepsOnly (Some rows) totals new.kept → Prepares g old (Ok tt) new
   all_made were_accepted old new entries newest rows totals counted listed follows is only = record {
     ready = λ none. some_rows rows (sym only.histories ∙ none);
+    noted = tt;
     cause = λ counts. tt;
     reads = record {
       store = λ counts. tt;
@@ -168,20 +195,50 @@ module _ {L : Type 0} (g : Ghosts L) where
       some_rows : (x : RegisterRows) → ¬ (Some x ≡ None)
       some_rows x e = absurd cc
 
-  -- ---- what is found
+  -- ---- what a snapshot is made of
 
-  moved : (old new : Records L) → ledger_in new ≡ ledger_in old → StaysCached old.kept new.kept
-      → (commands : List Command) → AreRecordsOf g old commands → AreRecordsOf g new commands
-  moved old new same kept commands records = record {
-    ledger = subst (λ (l : L). g.stands_for l commands) (sym same) records.ledger;
-    kept = stays_kept commands old.kept new.kept kept records.kept;
+  -- the snapshot is that of the revision with what is kept
+  abbrev pub ShowsKept : ℕ → Records L → RevisionFeatures → Type 0
+  ShowsKept revision records snapshot =
+      (commands : List Command) → KeepsOf commands records.kept → revision ≤ length commands → IsSnapshotOf revision (as_of revision commands) snapshot
+
+  made_over : (revision listed : ℕ) (old new : Records L) (snapshot : RevisionFeatures) → ReadsListed g listed old (Ok snapshot) new → snapshot.revision ≡ revision → ShowsKept revision new snapshot
+      → MakesSnapshot g revision listed old (Ok snapshot) new
+  made_over revision listed old new snapshot reads number shows = record {
+    number = number;
+    snapshot = λ counts commands records. shows commands (reads.kept counts commands records).kept;
+    cause = λ counts. tt;
+    reads = reads;
   }
 
-  pub not_prepared : (revision : ℕ) (sought : FeatureRequest) (old new : Records L) (fault : RegisterFault) (given : Result Response RegisterFault) → given ≡ Err fault → Prepares g old (Err fault) new
-      → Finds g revision sought old given new
-  not_prepared revision sought old new fault given e p = subst (λ (given : Result Response RegisterFault). Finds g revision sought old given new) (sym e) (record {
-    response = λ counts. tt;
-    cause = p.cause;
+  none_over : (revision listed : ℕ) (old new : Records L) (fault : RegisterFault) (given : Result RevisionFeatures RegisterFault) → given ≡ Err fault → fault ≡ Memory
+      → (g.counts (ledger_in new) → (commands : List Command) → AreRecordsOf g old commands → AreRecordsOf g new commands)
+      → (g.counts (ledger_in new) → g.counts (ledger_in old)) → MakesSnapshot g revision listed old given new
+  none_over revision listed old new fault given e m kept clean = subst (λ (given : Result RevisionFeatures RegisterFault). MakesSnapshot g revision listed old given new) (sym e) (record {
+    number = tt;
+    snapshot = λ counts. tt;
+    cause = λ counts commands records. inl m;
+    reads = ran_out listed old new fault m kept clean;
+  })
+
+  -- of what is kept
+  pub held_made : RemainsHere → (revision listed : ℕ) (records : Records L) (snapshot : RevisionFeatures) → ¬ (rows_in records.kept ≡ None) → snapshot.revision ≡ revision → ShowsKept revision records snapshot
+      → MakesSnapshot g revision listed records (Ok snapshot) records
+  held_made here revision listed records snapshot some = made_over revision listed records records snapshot (as_read (g.newest (ledger_in records)) listed records records tt snapshot (already here records some).reads)
+
+  pub none_held : (revision listed : ℕ) (records : Records L) (fault : RegisterFault) (given : Result RevisionFeatures RegisterFault) → given ≡ Err fault → fault ≡ Memory → MakesSnapshot g revision listed records given records
+  none_held revision listed records fault given e m = none_over revision listed records records fault given e m (λ counts commands all. all) (λ counts. counts)
+
+  -- of all that the ledger stores
+  pub not_read : (revision : ℕ) (old new : Records L) (fault : RegisterFault) (given : Result RevisionFeatures RegisterFault) → given ≡ Err fault → Prepares g old (Err fault) new
+      → MakesSnapshot g revision (g.newest (ledger_in old)) old given new
+  not_read revision old new fault given e p = subst (λ (given : Result RevisionFeatures RegisterFault). MakesSnapshot g revision (g.newest (ledger_in old)) old given new) (sym e) (record {
+    number = tt;
+    snapshot = λ counts. tt;
+    cause = λ counts commands records. elim (p.cause counts commands records) [
+      | inl m ↦ inl m
+      | inr f ↦ inr (inl f)
+    ];
     reads = record {
       store = p.reads.store;
       damaged = p.reads.damaged;
@@ -192,46 +249,127 @@ module _ {L : Type 0} (g : Ghosts L) where
     };
   })
 
-  pub not_looked : (revision : ℕ) (sought : FeatureRequest) (old new : Records L) (fault : RegisterFault) (given : Result Response RegisterFault) → given ≡ Err fault → fault ≡ Memory → Prepares g old (Ok tt) new
-      → Finds g revision sought old given new
-  not_looked revision sought old new fault given e m p = subst (λ (given : Result Response RegisterFault). Finds g revision sought old given new) (sym e) (record {
-    response = λ counts. tt;
-    cause = λ counts commands records. inl m;
+  pub none_made : (revision : ℕ) (old new : Records L) (fault : RegisterFault) (given : Result RevisionFeatures RegisterFault) → given ≡ Err fault → fault ≡ Memory → Prepares g old (Ok tt) new
+      → MakesSnapshot g revision (g.newest (ledger_in old)) old given new
+  none_made revision old new fault given e m p = none_over revision (g.newest (ledger_in old)) old new fault given e m p.reads.kept p.reads.clean
+
+  pub read_made : (revision : ℕ) (old new : Records L) (snapshot : RevisionFeatures) → Prepares g old (Ok tt) new → snapshot.revision ≡ revision → ShowsKept revision new snapshot
+      → MakesSnapshot g revision (g.newest (ledger_in old)) old (Ok snapshot) new
+  read_made revision old new snapshot p =
+      let newest = g.newest (ledger_in old) in made_over revision newest old new snapshot (as_read newest newest old new tt snapshot p.reads)
+
+  -- of the rows of the revision
+  abbrev pub ListsAt : ℕ → L → Result (Vec VersionedObject Global) RegisterFault → L → Type 0
+  ListsAt revision old = Listed g.stands_for g.counts g.lives g.fails g.fails_to_list g.refuses_listing g.damaged_for_listing g.remains old revision
+
+  -- the revision exists
+  abbrev pub Exists : ℕ → Records L → Type 0
+  Exists revision records = (commands : List Command) → g.stands_for (ledger_in records) commands → revision ≤ length commands
+
+  pub not_listed_at : (revision : ℕ) (old new : Records L) (fault : RegisterFault) (given : Result RevisionFeatures RegisterFault) → given ≡ Err fault → new.kept ≡ old.kept → Exists revision old
+      → ListsAt revision (ledger_in old) (Err fault) (ledger_in new) → MakesSnapshot g revision revision old given new
+  not_listed_at revision old new fault given e same exists listed = subst (λ (given : Result RevisionFeatures RegisterFault). MakesSnapshot g revision revision old given new) (sym e) (record {
+    number = tt;
+    snapshot = λ counts. tt;
+    cause = λ counts commands records. elim (listed.cause counts commands records.ledger) [
+      | inl unknown ↦ absurd (omega (arith, unknown.0, exists commands records.ledger))
+      | inr f ↦ inr (inr f.1)
+    ];
     reads = record {
-      store = λ counts s. absurd (not_store fault m s);
-      damaged = memory_names_none (DamagedForReading g old new) fault m;
+      store = λ counts s. listed.store counts (ap Err s);
+      damaged = listed.damaged;
       still = λ counts. tt;
       kept = λ counts. tt;
-      unchanged = λ counts commands records. inl (p.reads.kept counts commands records);
-      clean = p.reads.clean;
+      unchanged = λ counts commands records. elim (listed.unchanged counts commands records.ledger) [
+        | inl still ↦ inl (record { ledger = still; kept = subst (KeepsOf commands) (sym same) records.kept })
+        | inr shut ↦ inr shut
+      ];
+      clean = listed.clean;
     };
   })
 
-  pub looked : (revision : ℕ) (sought : FeatureRequest) (old mid new : Records L) (snapshot : RevisionFeatures) (response : Response) → Prepares g old (Ok tt) mid
-      → ledger_in new ≡ ledger_in mid → StaysWith snapshot mid.kept new.kept → snapshot.revision ≡ revision
-      → ((commands : List Command) → KeepsOf commands mid.kept → revision ≤ length commands → IsSnapshotOf revision (as_of revision commands) snapshot)
-      → ((commands : List Command) → g.stands_for (ledger_in old) commands → revision ≤ length commands)
+  list_kept : (revision : ℕ) (old new : Records L) (found : Vec VersionedObject Global) → new.kept ≡ old.kept → ListsAt revision (ledger_in old) (Ok found) (ledger_in new)
+      → g.counts (ledger_in new) → (commands : List Command) → AreRecordsOf g old commands → AreRecordsOf g new commands
+  list_kept revision old new found same listed counts commands records =
+      record { ledger = listed.kept counts commands records.ledger; kept = subst (KeepsOf commands) (sym same) records.kept }
+
+  pub none_listed : (revision : ℕ) (old new : Records L) (found : Vec VersionedObject Global) (fault : RegisterFault) (given : Result RevisionFeatures RegisterFault) → given ≡ Err fault → fault ≡ Memory
+      → new.kept ≡ old.kept → ListsAt revision (ledger_in old) (Ok found) (ledger_in new) → MakesSnapshot g revision revision old given new
+  none_listed revision old new found fault given e m same listed = none_over revision revision old new fault given e m (list_kept revision old new found same listed) listed.clean
+
+  pub list_made : (revision : ℕ) (old new : Records L) (found : Vec VersionedObject Global) (snapshot : RevisionFeatures) → new.kept ≡ old.kept → ListsAt revision (ledger_in old) (Ok found) (ledger_in new)
+      → IsSnapshotOf revision found.items snapshot → MakesSnapshot g revision revision old (Ok snapshot) new
+  list_made revision old new found snapshot same listed is = record {
+    number = is.of_revision;
+    snapshot = λ counts commands records within.
+        subst (λ versions. IsSnapshotOf revision versions snapshot) (listed.shown counts commands records.ledger).1 is;
+    cause = λ counts. tt;
+    reads = record {
+      store = λ counts. tt;
+      damaged = tt;
+      still = listed.still;
+      kept = list_kept revision old new found same listed;
+      unchanged = λ counts. tt;
+      clean = listed.clean;
+    };
+  }
+
+  -- ---- what is found
+
+  moved : (old new : Records L) → ledger_in new ≡ ledger_in old → StaysCached old.kept new.kept
+      → (commands : List Command) → AreRecordsOf g old commands → AreRecordsOf g new commands
+  moved old new same kept commands records = record {
+    ledger = subst (λ (l : L). g.stands_for l commands) (sym same) records.ledger;
+    kept = stays_kept commands old.kept new.kept kept records.kept;
+  }
+
+  pub not_made : (revision : ℕ) (sought : FeatureRequest) (old new : Records L) (fault : RegisterFault) (given : Result Response RegisterFault) → given ≡ Err fault
+      → MakesSnapshot g revision (revision_listed g old revision) old (Err fault) new → Finds g revision sought old given new
+  not_made revision sought old new fault given e m = subst (λ (given : Result Response RegisterFault). Finds g revision sought old given new) (sym e) (record {
+    response = λ counts. tt;
+    cause = m.cause;
+    reads = record {
+      store = m.reads.store;
+      damaged = m.reads.damaged;
+      still = λ counts. tt;
+      kept = λ counts. tt;
+      unchanged = m.reads.unchanged;
+      clean = m.reads.clean;
+    };
+  })
+
+  pub not_looked : (revision : ℕ) (sought : FeatureRequest) (old new : Records L) (snapshot : RevisionFeatures) (fault : RegisterFault) (given : Result Response RegisterFault) → given ≡ Err fault → fault ≡ Memory
+      → MakesSnapshot g revision (revision_listed g old revision) old (Ok snapshot) new → Finds g revision sought old given new
+  not_looked revision sought old new snapshot fault given e m made = subst (λ (given : Result Response RegisterFault). Finds g revision sought old given new) (sym e) (record {
+    response = λ counts. tt;
+    cause = λ counts commands records. inl m;
+    reads = ran_out (revision_listed g old revision) old new fault m made.reads.kept made.reads.clean;
+  })
+
+  pub looked : (revision : ℕ) (sought : FeatureRequest) (old mid new : Records L) (snapshot : RevisionFeatures) (response : Response)
+      → MakesSnapshot g revision (revision_listed g old revision) old (Ok snapshot) mid
+      → ledger_in new ≡ ledger_in mid → StaysWith snapshot mid.kept new.kept → Exists revision old
       → content_in_response response ≡ content_in sought snapshot → Finds g revision sought old (Ok response) new
-  looked revision sought old mid new snapshot response p same stays number shows exists is =
+  looked revision sought old mid new snapshot response made same stays exists is =
       let counted : g.counts (ledger_in new) → g.counts (ledger_in mid) = subst g.counts same in
       record {
         response = λ counts commands records within.
-            is ∙ content_at sought revision (as_of revision commands) snapshot (shows commands (p.reads.kept (counted counts) commands records).kept within);
+            is ∙ content_at sought revision (as_of revision commands) snapshot (made.snapshot (counted counts) commands records within);
         cause = λ counts. tt;
         reads = record {
           store = λ counts. tt;
           damaged = tt;
-          still = λ counts. subst (λ (l : L). g.remains (ledger_in old) l) (sym same) (p.reads.still (counted counts));
+          still = λ counts. subst (λ (l : L). g.remains (ledger_in old) l) (sym same) (made.reads.still (counted counts));
           kept = λ counts commands records.
-              let between = p.reads.kept (counted counts) commands records in
+              let between = made.reads.kept (counted counts) commands records in
               let h = exists commands records.ledger in
               record {
                 ledger = subst (λ (l : L). g.stands_for l commands) (sym same) between.ledger;
                 kept = kept_with commands snapshot mid.kept new.kept stays
-                    (subst (λ n. IsCached commands (n, snapshot)) (sym number) (record { exists = h; snapshot = shows commands between.kept h })) between.kept;
+                    (subst (λ n. IsCached commands (n, snapshot)) (sym made.number) (record { exists = h; snapshot = made.snapshot (counted counts) commands records h })) between.kept;
               };
           unchanged = λ counts. tt;
-          clean = λ counts. p.reads.clean (counted counts);
+          clean = λ counts. made.reads.clean (counted counts);
         };
       }
 
@@ -260,15 +398,16 @@ module _ {L : Type 0} (g : Ghosts L) where
   found_nothing revision sought old new result fault given e m r = subst (λ (given : Result Response RegisterFault). Finds g revision sought old given new) (sym e) (record {
     response = λ counts. tt;
     cause = λ counts commands records. inl m;
-    reads = record {
-      store = λ counts s. absurd (not_store fault m s);
-      still = λ counts. tt;
-      kept = λ counts. tt;
-      damaged = memory_names_none (DamagedForReading g old new) fault m;
-      unchanged = λ counts commands records. inl (moved old new r.same r.kept commands records);
-      clean = subst g.counts r.same;
-    };
+    reads = ran_out (revision_listed g old revision) old new fault m (λ counts. moved old new r.same r.kept) (subst g.counts r.same);
   })
+
+  -- what is listed, by the ledger and by whether a row was damaged
+  abbrev listed_of : ℕ → L × Bool → ℕ
+  listed_of revision x = if x.1 then revision else g.newest x.0
+
+  unmoved : {E : Type 0} (revision : ℕ) (sought : FeatureRequest) (old mid : Records L) (was : Result (Option Response) E) → Recalls g revision sought old was mid
+      → ◌≡◌ {A = L × Bool} (ledger_in mid, mid.is_damaged) (ledger_in old, old.is_damaged)
+  unmoved revision sought old mid was r = ap₂ (λ l b. (l, b)) r.same r.damaged
 
   pub found_read : {E : Type 0} (revision : ℕ) (sought : FeatureRequest) (old mid new : Records L) (was : Result (Option Response) E) (result : Result Response RegisterFault)
       → Recalls g revision sought old was mid → Finds g revision sought mid result new → Finds g revision sought old result new
@@ -288,10 +427,10 @@ module _ {L : Type 0} (g : Ghosts L) where
     response = λ counts. tt;
     cause = λ counts commands records. f.cause counts commands (moved old mid r.same r.kept commands records);
     reads = record {
-      store = λ counts s. subst (λ (l : L). g.refuses_listing l (ledger_in new) (g.newest l)) r.same (f.reads.store counts s);
+      store = λ counts s. subst (λ (x : L × Bool). g.refuses_listing x.0 (ledger_in new) (listed_of revision x)) (unmoved revision sought old mid was r) (f.reads.store counts s);
       still = λ counts. tt;
       kept = λ counts. tt;
-      damaged = subst (λ (l : L). NamesDamage (g.damaged_for_listing l (ledger_in new) (g.newest l)) fault) r.same f.reads.damaged;
+      damaged = subst (λ (x : L × Bool). NamesDamage (g.damaged_for_listing x.0 (ledger_in new) (listed_of revision x)) fault) (unmoved revision sought old mid was r) f.reads.damaged;
       unchanged = λ counts commands records.
           subst (λ (l : L). AreRecordsOf g new commands ⊎ IsShut g.lives g.fails l fault (ledger_in new)) r.same
           (f.reads.unchanged counts commands (moved old mid r.same r.kept commands records));

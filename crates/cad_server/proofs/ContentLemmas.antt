@@ -4,7 +4,6 @@ use Rattle.std.specs.Option.{option_map}
 use Rattle.cad_versions.specs.VersionedObject.{VersionedObject}
 use Rattle.cad_schema.specs.declared.collection.Collection.{Collection}
 use Rattle.cad_feature.specs.Features.{Item}
-use Rattle.cad_feature.specs.Flatten.{features_in}
 use Rattle.cad_history.specs.Rows.{bare}
 use Rattle.cad_parameters.specs.Identifiers.{Numbers, numbers_of}
 use Rattle.cad_history.specs.Snapshots.{IsSnapshotOf, RevisionFeatures, bared, features_at, with_features}

@@ -1,5 +1,5 @@
 -- The faults for which a server fails (own profile).
-use Rattle.std.specs.Prelude.{ℕ, List}
+use Rattle.std.proofs.Common.{inl, inr, ℕ, List}
 use Rattle.cad_versions.specs.declared.command.Command.{Command}
 use Rattle.cad_versions.specs.declared.fault.RegisterFault.{RegisterFault}
 use Rattle.cad_versions.specs.Keeping.{IsOfKeeping}
@@ -12,7 +12,10 @@ use Rattle.cad_server.specs.Replies.{FailsToTell, FailsToAnswer}
 module _ {FailsToList : ℕ → List Command → RegisterFault → Type 0} (keeps : (revision : ℕ) (commands : List Command) (fault : RegisterFault) → FailsToList revision commands fault → IsOfKeeping fault) where
   failing_to_tell : (commands : List Command) (wanted : ParsedRequest) (fault : RegisterFault) → FailsToTell FailsToList commands wanted fault → IsOfKeeping fault
   failing_to_tell commands (parsed.Immediate response) fault f = absurd f
-  failing_to_tell commands (parsed.Features sought) fault f = keeps _ commands fault f.1
+  failing_to_tell commands (parsed.Features sought) fault f = elim f.1 [
+    | inl newest ↦ keeps _ commands fault newest
+    | inr listed ↦ keeps _ commands fault listed
+  ]
 
   pub failing_keeps : (commands : List Command) (request : Request) (fault : RegisterFault) → FailsToAnswer FailsToList commands request fault → IsOfKeeping fault
   failing_keeps commands request fault f = failing_to_tell commands f.0 fault f.2

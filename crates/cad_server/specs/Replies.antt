@@ -1,5 +1,5 @@
 -- The reply to a request with the commands in force (OGC 17-069r4, section 7; RFC 9110, section 15).
-use Rattle.std.specs.Prelude.{◌≡◌, ◌≤◌, ℕ, true, List, length, ⊤}
+use Rattle.std.specs.Prelude.{◌≡◌, ◌≤◌, ◌⊎◌, ℕ, true, List, length, ⊤}
 use Rattle.cad_versions.specs.declared.command.Command.{Command}
 use Rattle.cad_versions.specs.declared.fault.RegisterFault.{RegisterFault}
 use Rattle.cad_head.specs.Request.{Request}
@@ -40,9 +40,14 @@ Asks request = (wanted : ParsedRequest) × IsParsedRequest (requested request) w
 -- ---- why there is no reply
 
 module _ (FailsToList : ℕ → List Command → RegisterFault → Type 0) where
-  -- the revision exists, and the ledger fails to list the newest one
+  -- the ledger fails to list the newest revision, or this one
+  abbrev pub FailsFor : ℕ → List Command → RegisterFault → Type 0
+  FailsFor revision commands fault = FailsToList (length commands) commands fault ⊎ FailsToList revision commands fault
+
+  -- the revision exists, and the ledger fails for it
   abbrev pub FailsToFind : List Command → FeatureRequest → RegisterFault → Type 0
-  FailsToFind commands sought fault = (revision_sought sought (length commands) ≤ length commands) × FailsToList (length commands) commands fault
+  FailsToFind commands sought fault =
+      (revision_sought sought (length commands) ≤ length commands) × FailsFor (revision_sought sought (length commands)) commands fault
 
   -- only what is sought in the ledger can fail
   abbrev pub FailsToTell : List Command → ParsedRequest → RegisterFault → Type 0

@@ -1,11 +1,16 @@
 -- The parts of a server that clauses use, and what its calls do (own profile).
-use Rattle.std.specs.Prelude.{◌≡◌, ◌≤◌, ◌⊎◌, ℕ, ℤ, List, length, Option, None, IfSome, Result, IfOk, IfErr, OnOk}
+use Rattle.std.specs.Prelude.{◌≡◌, ◌≤◌, ◌⊎◌, ℕ, ℤ, Bool, true, false, if◌then◌else◌, List, length, Vec, Option, None, IfSome, Result, IfOk, IfErr, OnOk}
+use Rattle.std.specs.Global.{Global}
+use Rattle.cad_versions.specs.AsOf.{as_of}
+use Rattle.cad_versions.specs.Entries.{Entry}
+use Rattle.cad_versions.specs.HistoryLedgers.{ListsEntries}
 use Rattle.cad_versions.specs.declared.command.Command.{Command}
 use Rattle.cad_versions.specs.declared.fault.RegisterFault.{RegisterFault}
-use Rattle.cad_versions.specs.declared.fault.RegisterFault.TheVariants.{Store, Memory}
+use Rattle.cad_versions.specs.declared.fault.RegisterFault.TheVariants.{Damaged, Memory, Store}
 use Rattle.cad_versions.specs.Keeping.{IsShut, NamesDamage}
 use Rattle.cad_versions.specs.Ledgers.{Applied, Checked}
 use Rattle.cad_versions.specs.declared.ledger.Ledger.{Ghosts}
+use Rattle.cad_history.specs.Snapshots.{IsSnapshotOf, RevisionFeatures}
 use Rattle.cad_head.specs.Request.{Request}
 use Rattle.cad_resource.specs.Requested.{requested}
 use Rattle.cad_request.specs.ParsedRequests.{IsParsedRequest}
@@ -15,9 +20,9 @@ use Rattle.cad_request.specs.declared.response.Response.{Response}
 use Rattle.cad_server.specs.declared.records.Records.{Records}
 use Rattle.cad_server.specs.declared.server.Server.{Server}
 use Rattle.cad_request.specs.declared.feature_request.FeatureRequest.{FeatureRequest}
-use Rattle.cad_server.specs.Contents.{content_in_response, content_in, content_of, content_requested, snapshot_at}
+use Rattle.cad_server.specs.Contents.{content_in_response, content_in, content_of, content_requested, revision_sought, snapshot_at}
 use Rattle.cad_server.specs.Keeping.{KeepsOf, StaysCached, cached_at, rows_in}
-use Rattle.cad_server.specs.Replies.{AsksForFeatures, FailsToFind, FailsToTell}
+use Rattle.cad_server.specs.Replies.{AsksForFeatures, FailsFor, FailsToFind, FailsToTell}
 
 abbrev pub ledger_in : {L : Type 0} → Records L → L
 ledger_in records = records.ledger
@@ -29,6 +34,11 @@ bound_in records = records.most_changes
 -- the same of a server
 abbrev pub bound_of : {L : Type 0} → Server L → ℕ
 bound_of server = bound_in server.records
+
+-- the fault names a damaged row
+abbrev pub is_damage : RegisterFault → Bool
+is_damage (Damaged object number) = true
+is_damage fault = false
 
 -- the ledger that a server answers over
 abbrev pub ledger_of : {L : Type 0} → Server L → L
@@ -44,27 +54,35 @@ module _ {L : Type 0} (g : Ghosts L) where
   abbrev pub IsServerOf : Server L → List Command → Type 0
   IsServerOf server commands = AreRecordsOf server.records commands
 
-  -- the ledger refuses to list what it stores at the newest revision
-  abbrev pub RefusesToRead : Records L → Records L → Type 0
-  RefusesToRead old new = g.refuses_listing (ledger_in old) (ledger_in new) (g.newest (ledger_in old))
+  -- what the ledger lists for the features of a revision: the newest one, or this one if a row was damaged when all were listed
+  abbrev pub revision_listed : Records L → ℕ → ℕ
+  revision_listed records revision = if records.is_damaged then revision else g.newest (ledger_in records)
+
+  -- the same for what is sought
+  abbrev pub revision_of : Records L → FeatureRequest → ℕ
+  revision_of records sought = revision_listed records (revision_sought sought (g.newest (ledger_in records)))
+
+  -- the ledger refuses to list this revision
+  abbrev pub RefusesToRead : ℕ → Records L → Records L → Type 0
+  RefusesToRead listed old new = g.refuses_listing (ledger_in old) (ledger_in new) listed
 
   -- the same for what is wanted; nothing is listed for a response that is made without the ledger
   abbrev pub RefusesToTell : ParsedRequest → Records L → Records L → Type 0
   RefusesToTell (parsed.Immediate response) old new = ⊥
-  RefusesToTell (parsed.Features sought) old new = RefusesToRead old new
+  RefusesToTell (parsed.Features sought) old new = RefusesToRead (revision_of old sought) old new
 
   -- the same for what a request asks for
   abbrev pub RefusesToAnswer : Server L → Server L → Request → Type 0
   RefusesToAnswer old new request = (wanted : ParsedRequest) × IsParsedRequest (requested request) wanted × RefusesToTell wanted old.records new.records
 
-  -- the ledger shows a damaged row of this object and this number when it lists what it stores at the newest revision
-  abbrev pub DamagedForReading : Records L → Records L → ℤ → ℤ → Type 0
-  DamagedForReading old new object number = g.damaged_for_listing (ledger_in old) (ledger_in new) (g.newest (ledger_in old)) object number
+  -- the ledger shows a damaged row of this object and this number when it lists this revision
+  abbrev pub DamagedForReading : ℕ → Records L → Records L → ℤ → ℤ → Type 0
+  DamagedForReading listed old new object number = g.damaged_for_listing (ledger_in old) (ledger_in new) listed object number
 
   -- the same for what is wanted
   abbrev pub DamagedForTelling : ParsedRequest → Records L → Records L → ℤ → ℤ → Type 0
   DamagedForTelling (parsed.Immediate response) old new object number = ⊥
-  DamagedForTelling (parsed.Features sought) old new object number = DamagedForReading old new object number
+  DamagedForTelling (parsed.Features sought) old new object number = DamagedForReading (revision_of old sought) old new object number
 
   -- the same for what a request asks for
   abbrev pub DamagedForAnswer : Server L → Server L → Request → ℤ → ℤ → Type 0
@@ -94,15 +112,31 @@ module _ {L : Type 0} (g : Ghosts L) where
     pub unchanged : g.counts (ledger_in new) → IfErr result (λ fault. (commands : List Command) → AreRecordsOf old commands → AreRecordsOf new commands ⊎ IsShut g.lives g.fails (ledger_in old) fault (ledger_in new))
     pub clean : g.counts (ledger_in new) → g.counts (ledger_in old)
 
-  -- what the ledger stores was read, so that the histories are there, or they were there and nothing was read
+  -- the ledger lists what it stores
+  abbrev pub ListsRows : L → Result (Vec Entry Global) RegisterFault → L → Type 0
+  ListsRows old = ListsEntries g.stands_for g.counts g.lives g.fails g.fails_to_list g.refuses_listing g.damaged_for_listing g.remains (g.newest old) old
+
+  -- reading for the features of a revision, for which the ledger lists no other one than this
+  abbrev pub ReadsListed : {T : Type 0} → ℕ → Records L → Result T RegisterFault → Records L → Type 0
+  ReadsListed listed old result new = Reads (RefusesToRead listed old new) (DamagedForReading listed old new) old result new
+
+  -- what the ledger stores was read, so that the histories are there, or they were there and nothing was read; a damaged row is noted
   pub record Prepares (old : Records L) (result : Result (Unit {0}) RegisterFault) (new : Records L) : Type 0 where
     pub ready : OnOk result (¬ (rows_in new.kept ≡ None))
+    pub noted : IfErr result (λ fault. is_damage fault ≡ true → new.is_damaged ≡ true)
     pub cause : g.counts (ledger_in new) → IfErr result (λ fault. (commands : List Command) → AreRecordsOf old commands → (fault ≡ Memory) ⊎ g.fails_to_list (length commands) commands fault)
-    pub reads : Reads (RefusesToRead old new) (DamagedForReading old new) old result new
+    pub reads : ReadsListed (g.newest (ledger_in old)) old result new
 
   -- the same of a server
   abbrev pub ServerPrepares : Server L → Result (Unit {0}) RegisterFault → Server L → Type 0
   ServerPrepares old result new = Prepares old.records result new.records
+
+  -- the snapshot is that of the revision, if this exists
+  pub record MakesSnapshot (revision listed : ℕ) (old : Records L) (result : Result RevisionFeatures RegisterFault) (new : Records L) : Type 0 where
+    pub number : IfOk result (λ snapshot. snapshot.revision ≡ revision)
+    pub snapshot : g.counts (ledger_in new) → IfOk result (λ snapshot. (commands : List Command) → AreRecordsOf old commands → revision ≤ length commands → IsSnapshotOf revision (as_of revision commands) snapshot)
+    pub cause : g.counts (ledger_in new) → IfErr result (λ fault. (commands : List Command) → AreRecordsOf old commands → (fault ≡ Memory) ⊎ FailsFor g.fails_to_list revision commands fault)
+    pub reads : ReadsListed listed old result new
 
   -- the response is what is sought, from what is kept of the revision. A response is missing only if nothing of the revision is kept. Only
   -- the order of what is kept changes.
@@ -110,19 +144,20 @@ module _ {L : Type 0} (g : Ghosts L) where
     pub response : IfOk result (λ found. IfSome found (λ response. (commands : List Command) → KeepsOf commands old.kept → content_in_response response ≡ content_in sought (snapshot_at revision commands)))
     pub none : IfOk result (λ found. found ≡ None → cached_at revision old.kept ≡ None)
     pub same : ledger_in new ≡ ledger_in old
+    pub damaged : new.is_damaged ≡ old.is_damaged
     pub kept : StaysCached old.kept new.kept
 
   -- the response is what is sought at an existing revision
   pub record Finds (revision : ℕ) (sought : FeatureRequest) (old : Records L) (result : Result Response RegisterFault) (new : Records L) : Type 0 where
     pub response : g.counts (ledger_in new) → IfOk result (λ response. (commands : List Command) → AreRecordsOf old commands → revision ≤ length commands → content_in_response response ≡ content_in sought (snapshot_at revision commands))
-    pub cause : g.counts (ledger_in new) → IfErr result (λ fault. (commands : List Command) → AreRecordsOf old commands → (fault ≡ Memory) ⊎ g.fails_to_list (length commands) commands fault)
-    pub reads : Reads (RefusesToRead old new) (DamagedForReading old new) old result new
+    pub cause : g.counts (ledger_in new) → IfErr result (λ fault. (commands : List Command) → AreRecordsOf old commands → (fault ≡ Memory) ⊎ FailsFor g.fails_to_list revision commands fault)
+    pub reads : ReadsListed (revision_listed old revision) old result new
 
   -- the response is what is sought, at the revision that is asked for or the newest
   pub record Seeks (sought : FeatureRequest) (old : Records L) (result : Result Response RegisterFault) (new : Records L) : Type 0 where
     pub response : g.counts (ledger_in new) → IfOk result (λ response. (commands : List Command) → AreRecordsOf old commands → content_in_response response ≡ content_of sought commands)
     pub cause : g.counts (ledger_in new) → IfErr result (λ fault. (commands : List Command) → AreRecordsOf old commands → (fault ≡ Memory) ⊎ FailsToFind g.fails_to_list commands sought fault)
-    pub reads : Reads (RefusesToRead old new) (DamagedForReading old new) old result new
+    pub reads : ReadsListed (revision_of old sought) old result new
 
   -- the response is what is wanted; if no features are wanted, it is so with any commands
   pub record Tells (wanted : ParsedRequest) (old : Records L) (result : Result Response RegisterFault) (new : Records L) : Type 0 where

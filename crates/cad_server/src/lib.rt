@@ -6,7 +6,8 @@
 //!
 //! The features at every revision are read from the ledger once, as rows, and are kept. A command adds to them what it changes. So after the
 //! first page since the start, no page of any revision reads from the ledger, unless memory ran out at a command. Past a bound of changes a
-//! segment of rows gets a new base. A revision's snapshot is a handle of the rows, and four of them are kept. Keeping changes no reply.
+//! segment of rows gets a new base. A revision's snapshot is a handle of the rows, and four of them are kept. Keeping changes no reply. If one
+//! of the ledger's rows is damaged, the rows of the revision that is asked for are listed alone.
 //!
 //! With a ledger of no commands, the request
 //!

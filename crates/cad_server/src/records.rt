@@ -14,7 +14,7 @@ use cad_history::{Histories, Snapshot};
 use cad_json::word_body;
 use cad_request::{FeatureRequest, ParsedRequest, Response};
 use cad_stream::Summary;
-use cad_versions::{Command, HistoryLedger, JournalLedger, Ledger, RegisterFault};
+use cad_versions::{Command, HistoryLedger, JournalLedger, Ledger, RegisterFault, StoredVersion};
 use std::alloc::{AllocError, Global};
 use std::rc::Rc;
 
@@ -25,6 +25,8 @@ pub(crate) const MOST_CHANGES: usize = 2048;
 pub(crate) struct Records<L: Ledger> {
     ledger: L,
     kept: SnapshotCache,
+    /// Whether a row was damaged when the ledger last listed all of them. Each revision is listed alone then.
+    is_damaged: bool,
     /// How many changes the bases of a list of rows get before new ones are made.
     most_changes: usize,
     alloc: Global,
@@ -35,6 +37,7 @@ impl<L: Ledger + Drop> Drop for Records<L> {
         let Records {
             ledger: _,
             kept: _,
+            is_damaged: _,
             most_changes: _,
             alloc: _,
         } = self;
@@ -64,6 +67,7 @@ impl<L: Ledger> Records<L> {
         Ok(Records {
             ledger,
             kept,
+            is_damaged: false,
             most_changes,
             alloc,
         })
@@ -76,6 +80,7 @@ impl<L: Ledger> Records<L> {
         let Records {
             ledger,
             kept: _,
+            is_damaged: _,
             most_changes: _,
             alloc: _,
         } = self;
@@ -146,19 +151,30 @@ impl<L: Ledger> Records<L> {
 }
 
 impl<L: HistoryLedger> Records<L> {
-    ghost use Rattle.std.specs.Prelude.{◌≡◌, ◌≤◌, List, length, None, IfOk, IfSome};
+    ghost use Rattle.std.specs.Prelude.{◌≡◌, ◌≤◌, List, length, true, None, IfErr, IfOk, IfSome};
     ghost use Rattle.cad_versions.specs.declared.command.Command.{Command as CommandOf};
     ghost use Rattle.cad_versions.specs.AsOf.{as_of};
     ghost use Rattle.cad_history.specs.Snapshots.{IsSnapshotOf};
     ghost use Rattle.cad_server.specs.Keeping.{KeepsOf, cached_at, rows_in};
-    ghost use Rattle.cad_server.specs.Servers.{ledger_in, AreRecordsOf, Prepares, Recalls, Finds, Seeks, Tells};
+    ghost use Rattle.cad_server.specs.Servers.{is_damage, ledger_in, revision_listed, AreRecordsOf, ListsRows, MakesSnapshot, Prepares, Recalls, Finds, Seeks, Tells};
+
+    /// The versions that the ledger stores. Notes whether one of their rows is damaged.
+    fn stored_versions(&mut self) -> Result<Vec<StoredVersion>, RegisterFault>
+        ensures listed { ListsRows L.Ledger (ledger_in self.old) result (ledger_in self.new) }
+        ensures kept { self.new.kept ≡ self.old.kept }
+        ensures noted { IfErr result (λ fault. is_damage fault ≡ true → self.new.is_damaged ≡ true) }
+    {
+        let stored = self.ledger.stored_versions();
+        self.is_damaged = matches!(stored, Err(RegisterFault::Damaged { .. }));
+        stored
+    }
 
     /// Reads what the ledger stores, and makes the histories of all collections.
     fn read(&mut self) -> Result<(), RegisterFault>
         ensures { Prepares L.Ledger self.old result self.new }
     {
         let newest = self.ledger.revision();
-        let versions = self.ledger.stored_versions()?;
+        let versions = self.stored_versions()?;
         let histories = Histories::of_register(self.alloc, &versions, newest)?;
         let totals = Totals {
             highest_object: Some(highest_in(&versions)),
@@ -192,6 +208,39 @@ impl<L: HistoryLedger> Records<L> {
         }
     }
 
+    /// A snapshot of the revision, from all that the ledger stores.
+    fn read_snapshot(&mut self, revision: u64) -> Result<Snapshot, RegisterFault>
+        ensures { MakesSnapshot L.Ledger revision (L.Ledger.newest (ledger_in self.old)) self.old result self.new }
+    {
+        self.prepare()?;
+        Ok(self.snapshot_at(revision)?)
+    }
+
+    /// A snapshot of the revision, from the rows of this revision alone.
+    fn list_snapshot(&mut self, revision: u64) -> Result<Snapshot, RegisterFault>
+        requires { (commands : List CommandOf) → L.Ledger.stands_for (ledger_in self.old) commands → revision ≤ length commands }
+        ensures { MakesSnapshot L.Ledger revision revision self.old result self.new }
+    {
+        let versions = self.ledger.as_of(revision)?;
+        Ok(Snapshot::build(self.alloc, revision, versions)?)
+    }
+
+    /// A snapshot of an existing revision. The ledger is read only if the features at every revision are not kept.
+    fn make_snapshot(&mut self, revision: u64) -> Result<Snapshot, RegisterFault>
+        requires { (commands : List CommandOf) → L.Ledger.stands_for (ledger_in self.old) commands → revision ≤ length commands }
+        ensures made { MakesSnapshot L.Ledger revision (revision_listed L.Ledger self.old revision) self.old result self.new }
+        ensures unasked { ¬ (rows_in self.old.kept ≡ None) → ledger_in self.new ≡ ledger_in self.old }
+    {
+        if self.kept.histories().is_some() {
+            return Ok(self.snapshot_at(revision)?);
+        }
+        // The rows of an earlier revision may be sound.
+        if self.is_damaged {
+            return self.list_snapshot(revision);
+        }
+        self.read_snapshot(revision)
+    }
+
     /// What is sought, from the snapshot of the revision, if it is kept.
     fn recall(
         &mut self,
@@ -214,14 +263,13 @@ impl<L: HistoryLedger> Records<L> {
         ensures found { Finds L.Ledger revision sought.now self.old result self.new }
         ensures unasked { ¬ (rows_in self.old.kept ≡ None) → ledger_in self.new ≡ ledger_in self.old }
     {
-        self.prepare()?;
-        let snapshot = self.snapshot_at(revision)?;
+        let snapshot = self.make_snapshot(revision)?;
         let response = response_in(self.alloc, sought, &snapshot)?;
         self.kept.add(snapshot);
         Ok(response)
     }
 
-    /// What is sought at an existing revision. The ledger is read only if nothing was read since the start, or memory ran out.
+    /// What is sought at an existing revision. The ledger is read only if nothing was read since the start, memory ran out, or a row is damaged.
     fn find(&mut self, revision: u64, sought: &FeatureRequest) -> Result<Response, RegisterFault>
         requires { (commands : List CommandOf) → L.Ledger.stands_for (ledger_in self.old) commands → revision ≤ length commands }
         ensures found { Finds L.Ledger revision sought.now self.old result self.new }

@@ -49,8 +49,8 @@ fn tell<R: Responder>(
     Ok(())
 }
 
-/// For a register whose parcel 2 has no label: a request that reads the register is refused and closes only its connection, and all else
-/// continues.
+/// For a register whose parcel 2 has no label: a request at a revision that has that row is refused and closes only its connection, and all
+/// else continues. An earlier revision is listed alone, once all rows were read in vain.
 const DAMAGED: &str =
     r#"serve 1 "GET /collections/parcels/items?filter=area+%3E+400 HTTP/1.1\r\nHost: x\r\n\r\n"
 serve 1 "GET / HTTP/1.1\r\nHost: x\r\n\r\n"
@@ -61,9 +61,10 @@ office {"do":"enter","object":12,"first":"2000-01-01","unit":{}}
 office {"do":"amend","object":1,"first":"2020-01-01","parcel":{"unit":12,"label":"A-1"}}
 office {"do":"retire","object":2,"last":"2020-01-01"}
 bytes 2 "Host: x\r\n\r\n"
-serve 1 "GET /collections/parcels/items?revision=5&filter=area+%3E+300 HTTP/1.1\r\nHost: x\r\n\r\n"
+bytes 2 "GET /collections/parcels/items?revision=5 HTTP/1.1\r\nHost: x\r\n\r\n"
 bytes 2 "GET /collections/parcels/items?revision=99 HTTP/1.1\r\nHost: x\r\n\r\n"
-bytes 2 "GET /collections/parcels/items?revision=0 HTTP/1.1\r\nHost: x\r\n\r\n"
+serve 1 "GET /collections/parcels/items?revision=5&filter=area+%3E+300 HTTP/1.1\r\nHost: x\r\n\r\n"
+bytes 2 "GET /collections/parcels/items?revision=6 HTTP/1.1\r\nHost: x\r\n\r\n"
 bytes 2 "GET / HTTP/1.1\r\nHost: x\r\n\r\n""#;
 
 const DAMAGED_ANSWERS: &str =
@@ -76,13 +77,14 @@ Entered 11
 Entered 12
 Entered 13
 Sent "HTTP/1.1 200 OK\r\nContent-Type: application/json\r\nContent-Length: 145\r\n\r\n{\"links\":[{\"href\":\"/\",\"rel\":\"self\",\"type\":\"application/json\"},{\"href\":\"/collections\",\"rel\":\"data\",\"type\":\"application/json\"}],\"title\":\"Cadastre\"}"
-5 Register Damaged "HTTP/1.1 500 Internal Server Error\r\nContent-Length: 0\r\nConnection: close\r\n\r\n"
+Sent "HTTP/1.1 200 OK\r\nContent-Type: application/json\r\nContent-Length: 719\r\n\r\n{\"features\":[{\"geometry\":{\"coordinates\":[[[0,0],[20000,0],[20000,20000],[0,20000],[0,0]]],\"type\":\"Polygon\"},\"id\":\"1.1\",\"properties\":{\"area\":400,\"begin\":\"2001-01-01\",\"end\":\"2009-12-31\",\"label\":\"A-1\",\"number\":1,\"object\":1,\"reference_point\":null,\"unit\":10,\"unit_name\":\"Mill\"},\"type\":\"Feature\"},{\"geometry\":{\"coordinates\":[[[0,0],[20000,0],[20000,20000],[0,20000],[0,0]]],\"type\":\"Polygon\"},\"id\":\"1.2\",\"properties\":{\"area\":380,\"begin\":\"2010-01-01\",\"end\":null,\"label\":\"A-1\",\"number\":2,\"object\":1,\"reference_point\":null,\"unit\":10,\"unit_name\":\"Mill\"},\"type\":\"Feature\"}],\"links\":[{\"href\":\"/collections/parcels/items?revision=5\",\"rel\":\"self\",\"type\":\"application/json\"}],\"numberReturned\":2,\"revision\":5,\"type\":\"FeatureCollection\"}"
 Sent "HTTP/1.1 400 Bad Request\r\nContent-Type: application/json\r\nContent-Length: 20\r\n\r\n{\"fault\":\"revision\"}"
+peer ended "HTTP/1.1 200 OK\r\nContent-Type: application/json\r\nContent-Length: 739\r\n\r\n{\"features\":[{\"geometry\":{\"coordinates\":[[[0,0],[20000,0],[20000,20000],[0,20000],[0,0]]],\"type\":\"Polygon\"},\"id\":\"1.1\",\"properties\":{\"area\":400,\"begin\":\"2001-01-01\",\"end\":\"2009-12-31\",\"label\":\"A-1\",\"number\":1,\"object\":1,\"reference_point\":null,\"unit\":10,\"unit_name\":\"Mill\"},\"type\":\"Feature\"},{\"geometry\":{\"coordinates\":[[[0,0],[20000,0],[20000,20000],[0,20000],[0,0]]],\"type\":\"Polygon\"},\"id\":\"1.2\",\"properties\":{\"area\":380,\"begin\":\"2010-01-01\",\"end\":null,\"label\":\"A-1\",\"number\":2,\"object\":1,\"reference_point\":null,\"unit\":10,\"unit_name\":\"Mill\"},\"type\":\"Feature\"}],\"links\":[{\"href\":\"/collections/parcels/items?revision=5&filter=area+%3E+300\",\"rel\":\"self\",\"type\":\"application/json\"}],\"numberReturned\":2,\"revision\":5,\"type\":\"FeatureCollection\"}"
 5 Register Damaged
 1 UnknownConnection"#;
 
 #[test]
-fn a_damaged_row_refuses_what_reads_the_register_alone(rt: HostRuntime) -> Result<(), Fail> {
+fn a_damaged_row_refuses_the_revisions_that_have_it_alone(rt: HostRuntime) -> Result<(), Fail> {
     let alloc = rt.alloc();
     let mut connection = filled(alloc)?.release();
     let change = "UPDATE version SET label = NULL WHERE object = 2";

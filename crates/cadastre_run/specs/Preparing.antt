@@ -2,19 +2,14 @@
 use Rattle.std.specs.Prelude.{◌≡◌, ◌⊎◌, ℕ, Bool, true, false, List, None, Result, Ok, Err}
 use Rattle.cad_versions.specs.declared.command.Command.{Command}
 use Rattle.cad_versions.specs.declared.fault.RegisterFault.{RegisterFault}
-use Rattle.cad_versions.specs.declared.fault.RegisterFault.TheVariants.{Damaged, Memory}
+use Rattle.cad_versions.specs.declared.fault.RegisterFault.TheVariants.{Memory}
 use Rattle.cad_versions.specs.declared.ledger.Ledger.{Ghosts}
 use Rattle.cad_desk.specs.declared.desk.Desk.{Desk}
 use Rattle.cad_desk.specs.Connections.{rest_at}
 use Rattle.cad_desk.specs.Desks.{responder_of, connections_of}
 use Rattle.cad_serve.specs.Statuses.{EndsWithout}
 use Rattle.cad_server.specs.declared.server.Server.{Server}
-use Rattle.cad_server.specs.Servers.{ledger_of, IsServerOf, ServerPrepares}
-
--- the fault names a damaged row
-abbrev pub is_damage : RegisterFault → Bool
-is_damage (Damaged object number) = true
-is_damage fault = false
+use Rattle.cad_server.specs.Servers.{is_damage, ledger_of, IsServerOf, ServerPrepares}
 
 module _ {L : Type 0} (g : Ghosts L) where
   -- a server was made over the ledger that is lent, and has read what the ledger stores, or was refused it
@@ -24,7 +19,7 @@ module _ {L : Type 0} (g : Ghosts L) where
     pub same : ledger_of new ≡ lent
     pub reads : ServerPrepares g new result server
 
-  -- a row is damaged, so that the server refuses requests for features, and answers all others
+  -- a row is damaged, so that the server refuses requests for the features of revisions that have it, and answers all others
   pub record IsDamaged (lent : L) (server : Server L) : Type 0 where
     pub fault : RegisterFault
     pub damage : is_damage fault ≡ true

@@ -1,7 +1,8 @@
 //! A server that has read what its ledger stores, unless a row is damaged.
 
 ghost use Rattle.std.specs.Prelude.{◌≡◌};
-ghost use Rattle.cadastre_run.specs.Preparing.{OpensServer, is_damage as names_damage};
+ghost use Rattle.cadastre_run.specs.Preparing.{OpensServer};
+ghost use Rattle.cad_server.specs.Servers.{is_damage as names_damage};
 
 use cad_server::Server;
 use cad_versions::{HistoryLedger, RegisterFault};
@@ -15,7 +16,8 @@ fn is_damage(fault: &RegisterFault) -> bool
 }
 
 /// A server over the ledger that has read all that the ledger stores, so that no client waits for it, and true. If a row is damaged, it has
-/// not, so it refuses requests for features and answers all others: false. Otherwise the fault, and the ledger back.
+/// not, so it refuses requests for features of the revisions that have the row, and answers all others: false. Otherwise the fault, and the
+/// ledger back.
 pub fn prepared_server<L: HistoryLedger>(
     alloc: Global,
     ledger: L,

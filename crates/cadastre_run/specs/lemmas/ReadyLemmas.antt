@@ -9,8 +9,8 @@ use Rattle.cad_desk.specs.declared.desk.Desk.{Desk}
 use Rattle.cad_desk.specs.Connections.{rest_at}
 use Rattle.cad_desk.specs.Desks.{responder_of, connections_of}
 use Rattle.cad_server.specs.declared.server.Server.{Server}
-use Rattle.cad_server.specs.Servers.{ledger_of, IsServerOf}
-use Rattle.cadastre_run.specs.Preparing.{HasStarted, IsDeskReady, IsRefused, StartsWith, is_damage}
+use Rattle.cad_server.specs.Servers.{is_damage, ledger_of, IsServerOf}
+use Rattle.cadastre_run.specs.Preparing.{HasStarted, IsDeskReady, IsRefused, StartsWith}
 
 -- a ledger's store is not closed after damage
 damage_stays : (fault : RegisterFault) → is_damage fault ≡ true → MayClose fault → ⊥

@@ -8,7 +8,7 @@ use Rattle.cad_server.proofs.records.Records.read.Goals as goal
 
 pub returns : goal.returns
 returns g c =
-    all_made g.L.Ledger g.met.L.Ledger.were_accepted c.args.self.now _ c.in_ok-versions.versions c.revision-newest.result (rc_value c.in_ok-histories-2.histories) _ c.revision-newest.ensures.counted c.in_ok-versions.ensures
+    all_made g.L.Ledger g.met.L.Ledger.were_accepted c.args.self.now _ c.in_ok-versions.versions c.revision-newest.result (rc_value c.in_ok-histories-2.histories) _ c.revision-newest.ensures.counted c.in_ok-versions.ensures.listed
     (λ commands accepted all newest. subst (AreAllRowsOf commands) (sym c.in_ok-histories-2.ensures.ok) (c.in_ok-histories.ensures commands accepted (c.deref.ensures.value ∙ all) newest))
-    (ap₂ (λ highest chain. record { highest_object = Some highest; chain = chain }) (c.highest_in.ensures ∙ ap (λ entries. highest_object (map version_in entries)) c.deref-2.ensures.value) (ap (λ totals. totals.chain) c.totals.ensures))
+    (ap₂ (λ highest chain. record { highest_object = Some highest; chain = chain }) (c.highest_in.ensures ∙ ap (λ entries. highest_object (map version_in entries)) c.deref-2.ensures.value) (ap (λ totals. totals.chain) c.totals.ensures ∙ ap (λ kept. kept.totals.chain) c.in_ok-versions.ensures.kept))
     c.replace.ensures

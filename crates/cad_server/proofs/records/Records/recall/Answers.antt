@@ -14,4 +14,4 @@ returns-in_err-response g c =
 
 pub returns : goal.returns
 returns g c =
-    recalls_some g.L.Ledger c.args.revision c.args.sought.now c.args.self.now _ c.in-Some.snapshot.now c.in_ok-response.response refl c.touch.ensures c.in-Some.ensures c.in_ok-response.ensures
+    recalls_some g.L.Ledger c.args.revision c.args.sought.now c.args.self.now _ c.in-Some.snapshot.now c.in_ok-response.response refl refl c.touch.ensures c.in-Some.ensures c.in_ok-response.ensures
