@@ -18,6 +18,7 @@ mod candidates;
 mod counting;
 pub mod laws;
 mod lifespans;
+mod list_candidates;
 mod paging;
 mod past_candidates;
 mod query;

@@ -235,8 +235,8 @@ fn candidates_left(
 {
     let collection = features.collection();
     let mut all = Vec::new(alloc);
-    let mut left = Candidates::of(alloc, plan, features)?;
-    while let Some(feature) = left.next() {
+    let mut left = Candidates::of(alloc, plan, features);
+    while let Some(feature) = left.next()? {
         push_left(alloc, command, collection, name, feature, &mut all)?;
     }
     Ok(all)

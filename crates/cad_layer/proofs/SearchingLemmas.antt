@@ -7,9 +7,9 @@ use Rattle.cad_versions.specs.declared.object_id.ObjectId.{ObjectId}
 use Rattle.cad_versions.specs.lemmas.ListLemmas.{all_filtered, all_kept, all_weaker}
 use Rattle.cad_versions.specs.Objects.{object_number}
 use Rattle.cad_feature.specs.Features.{Item, identifier_of}
-use Rattle.cad_layer.specs.Identifiers.{IsTheOne, identifier, is_item_of, of_object}
+use Rattle.cad_layer.specs.Identifiers.{IsTheOne, identifier, is_item_of, items_after, of_object}
 use Rattle.cad_layer.specs.lemmas.LookupLemmas.{later}
-use Rattle.cad_layer.specs.lemmas.SegmentLemmas.{skipped, stopped}
+use Rattle.cad_layer.specs.lemmas.SegmentLemmas.{passed, skipped, stopped}
 use Rattle.cad_layer.specs.Segments.{AreSegments, SegmentFeatures, joined}
 
 module _ (object : ObjectId) (segments : List SegmentFeatures) (s t : SegmentFeatures) (rest ss : List SegmentFeatures) (is : rest ≡ t ∷ ss) (apart : AreSegments (s ∷ rest)) (same : of_object object (joined (s ∷ rest)) ≡ of_object object (joined segments)) where
@@ -24,6 +24,21 @@ module _ (object : ObjectId) (segments : List SegmentFeatures) (s t : SegmentFea
 
   pub goes_on : t.start ≤ object_number object → of_object object (joined (t ∷ ss)) ≡ of_object object (joined segments)
   goes_on h = sym (skipped object s t ss apart_of h) ∙ sym (ap (λ r. of_object object (joined (s ∷ r))) is) ∙ same
+
+-- ---- what comes after a version of the object
+
+module _ (object : ObjectId) (s t : SegmentFeatures) (rest behind ss : List SegmentFeatures) (are : rest ≡ s ∷ behind) (is : behind ≡ t ∷ ss) (apart : AreSegments rest) where
+  both : rest ≡ s ∷ t ∷ ss
+  both = are ∙ ap (λ r. s ∷ r) is
+
+  pub behind_apart : AreSegments behind
+  behind_apart = (subst AreSegments are apart).1
+
+  pub goes_past : (number : ℕ) (xs : List Item) → t.start ≤ object_number object → items_after (identifier object number) (joined rest) ≡ xs → items_after (identifier object number) (joined behind) ≡ xs
+  goes_past number xs h same =
+      ap (λ r. items_after (identifier object number) (joined r)) is
+      ∙ sym (passed object number s t ss (subst AreSegments both apart) h)
+      ∙ sym (ap (λ r. items_after (identifier object number) (joined r)) both) ∙ same
 
 -- ---- one of the versions
 

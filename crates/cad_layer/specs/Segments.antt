@@ -1,6 +1,8 @@
 -- Features of a collection in segments, each of the objects between two numbers (own profile).
 use Rattle.std.specs.Prelude.{◌≡◌, ℕ, Bool, true, false, not, nat_le, List, [], ◌∷◌, ◌++◌, filter}
 use Rattle.std.specs.List.{AllByRecursion}
+use Rattle.std.proofs.Props.{props}
+use mathlib.Core.HLevel.{×_prop}
 use Rattle.cad_versions.specs.Objects.{object_number}
 use Rattle.cad_schema.specs.declared.collection.Collection.{Collection}
 use Rattle.cad_feature.specs.Features.{Item}
@@ -30,6 +32,14 @@ AreApart s (t ∷ ts) = AllByRecursion (λ x. is_from t.start x ≡ false) s.fea
 abbrev pub AreSegments : List SegmentFeatures → Type 0
 AreSegments [] = Unit {0}
 AreSegments (s ∷ ss) = AreApart s ss × AreSegments ss
+
+apart_prop : (s : SegmentFeatures) (ss : List SegmentFeatures) → IsProp (AreApart s ss)
+apart_prop s [] = Prim.hlevel props
+apart_prop s (t ∷ ts) = Prim.hlevel props
+
+pub segments_prop : (ss : List SegmentFeatures) → IsProp (AreSegments ss)
+segments_prop [] = Prim.hlevel props
+segments_prop (s ∷ ss) = ×_prop (apart_prop s ss) (segments_prop ss)
 
 -- ---- with changes
 

@@ -82,7 +82,7 @@ impl Layer {
     ghost use Rattle.cad_lookup.specs.Ways.{counts_of};
     ghost use Rattle.cad_layer.specs.Identifiers.{identifier, of_object, IsTheOne};
     ghost use Rattle.cad_index.specs.Moments.{rows_at};
-    ghost use Rattle.cad_layer.specs.Segments.{joined};
+    ghost use Rattle.cad_layer.specs.Segments.{AreSegments, joined};
     ghost use Rattle.cad_layer.specs.Walks.{all_in};
 
     /// These features of the collection, without changes. An error means out of memory.
@@ -130,7 +130,8 @@ impl Layer {
 
     /// The segments, by object.
     pub fn segments(&self) -> &[Segment]
-        ensures { joined result.now ≡ self.now.features }
+        ensures all { joined result.now ≡ self.now.features }
+        ensures apart { AreSegments result.now }
     {
         listed(&self.segments)
     }

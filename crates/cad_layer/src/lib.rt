@@ -8,6 +8,7 @@
 //!   and the changes after one of them
 //! - [`Walk`]: a walk through both, in the order of identifiers
 //! - [`merge`], [`found`]: all of a list and the changes to it, and one of a list
+//! - [`segments_from`]: the segments from that of an object on
 //! - `laws`: that changes may be merged with one another first, and that identifiers are unique
 //!
 //! A base of the parcels 1.1 and 2.1 with the changes 1.1, which is now closed, and 1.2, has the features 1.1 as changed, 1.2 and
@@ -46,5 +47,6 @@ pub use finding::found;
 pub use indexed::Indexed;
 pub use layer::{Layer, OF_A_SEGMENT};
 pub use merging::merge;
+pub use searching::segments_from;
 pub use segment::Segment;
 pub use walk::Walk;

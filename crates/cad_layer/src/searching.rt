@@ -1,7 +1,7 @@
-//! The segment in which an object lies.
+//! The segment in which an object lies, and those behind it.
 
-ghost use Rattle.std.specs.Prelude.{◌≡◌, [], MatchOption};
-ghost use Rattle.cad_layer.specs.Identifiers.{of_object};
+ghost use Rattle.std.specs.Prelude.{◌≡◌, ℕ, [], MatchOption};
+ghost use Rattle.cad_layer.specs.Identifiers.{identifier, items_after, of_object};
 ghost use Rattle.cad_layer.specs.Segments.{AreSegments, joined};
 
 use crate::Segment;
@@ -21,4 +21,23 @@ pub(crate) fn segment_of(segments: &[Segment], object: ObjectId) -> Option<&Segm
         rest = behind;
     }
     Some(found)
+}
+
+/// The segments from the one on in which the object lies. Those before it have nothing that comes after a version of the object.
+pub fn segments_from(segments: &[Segment], object: ObjectId) -> &[Segment]
+    requires { AreSegments segments.now }
+    ensures apart { AreSegments result.now }
+    ensures after { (number : ℕ) → items_after (identifier object number) (joined result.now) ≡ items_after (identifier object number) (joined segments.now) }
+{
+    let mut rest = segments;
+    while let Some((_segment, behind)) = rest.split_first() {
+        let Some((next, _others)) = behind.split_first() else {
+            return rest;
+        };
+        if object.number() < next.start() {
+            return rest;
+        }
+        rest = behind;
+    }
+    rest
 }

@@ -1,55 +1,38 @@
--- What is left in segments of which the last stands first.
-use Rattle.std.proofs.Common.{◌≡◌, ◌∙◌, ℕ, ℤ, ◌+◌, ◌-◌, ◌<◌, ◌≤◌, ◌^◌, Bool, false, refl, List, [], ◌∷◌, ◌++◌, filter, length, take, drop, get_or, ap, sym, subst, arith, Option, slice_index_or, slice_set}
+-- What is left in segments, of which the first is opened.
+use Rattle.std.proofs.Common.{◌≡◌, ◌∙◌, ℕ, ℤ, ◌<◌, ◌^◌, Bool, true, false, cond, Ordering, Less, Equal, Greater, is_gt, List, [], ◌∷◌, ◌++◌, filter, length, refl, ap, ap₂, sym, subst, arith, Option, Some, None, Result, Ok, Err, Bor, true≢false}
+use Rattle.std.specs.Prelude.{IfOk, IfErr, option_map}
 use Rattle.std.specs.List.{AllByRecursion}
 use Rattle.std.specs.List.Sorted.{IsStrictlySortedBy}
+use Rattle.std.specs.Ordering.{ordering_reverse}
 use Rattle.std.proofs.lemmas.List.Kept.{IsStrictlySortedBy-filter}
-use Rattle.std.proofs.lemmas.List.{append_assoc, append-nil, drop-set-lt, drop_more, length-set, nil_from_length, take-set, take_all, take_more, take_more_set}
 use Rattle.std.proofs.lemmas.List.Elements.{filter-append}
+use Rattle.cad_versions.specs.Identifiers.{identifier_cmp}
 use Rattle.cad_versions.specs.lemmas.ListLemmas.{filter_fewer}
-use Rattle.cad_feature.specs.Features.{Item, by_identifier}
+use Rattle.cad_versions.specs.lemmas.OrderLemmas.{identifiers_total}
+use Rattle.cad_versions.specs.declared.object_id.ObjectId.{ObjectId}
+use Rattle.cad_feature.specs.Features.{Item, by_identifier, identifier_of}
 use Rattle.cad_extents.specs.declared.extents.Extents.{Extents}
 use Rattle.cad_extents.specs.Extents.{IsWithin}
 use Rattle.cad_layer.specs.Segments.{SegmentFeatures, joined}
+use Rattle.cad_layer.specs.Identifiers.{comes_after}
+use Rattle.cad_layer.specs.lemmas.SearchLemmas.{equal_is}
 use Rattle.cad_run.specs.declared.segment_candidates.SegmentCandidates.{SegmentCandidates}
-use Rattle.cad_run.specs.SegmentLeft.{segment_left, all_left}
-use Rattle.cad_run.specs.Slices.{is_later, later}
+use Rattle.cad_run.specs.declared.sought.Sought.{Sought}
+use Rattle.cad_run.specs.SegmentLeft.{opened_left, unopened_left}
+use Rattle.cad_run.specs.Slices.{identifier, is_later, later}
+use Rattle.cad_run.specs.Sought.{is_sought}
+use Rattle.cad_run.specs.lemmas.TakenLemmas.{IsTaken, taken_rises, turned}
+use Rattle.cad_run.proofs.LeftLemmas.{all_later}
 pub use Rattle.cad_run.specs.lemmas.TakenLemmas.{few_later, fewer_left}
 
-last_left : (ss : List SegmentCandidates) (s : SegmentCandidates) → all_left (ss ++ (s ∷ [])) ≡ segment_left s ++ all_left ss
-last_left [] s = sym (append-nil (segment_left s))
-last_left (t ∷ ss) s = ap (λ xs. xs ++ segment_left t) (last_left ss s) ∙ append_assoc (segment_left s) (all_left ss) (segment_left t)
-
--- ---- at the beginning
-
-last_joined : (ss : List SegmentFeatures) (s : SegmentFeatures) → joined (ss ++ (s ∷ [])) ≡ joined ss ++ s.features
-last_joined [] s = append-nil s.features
-last_joined (t ∷ ss) s = ap (λ xs. t.features ++ xs) (last_joined ss s) ∙ sym (append_assoc t.features (joined ss) s.features)
-
 module _ (test : Item → Bool) where
-  pub none_taken : (sources : List SegmentCandidates) (xs : List Item) → sources ≡ [] → filter test xs ++ all_left sources ≡ filter test xs
-  none_taken sources xs is = ap (λ ss. filter test xs ++ all_left ss) is ∙ append-nil (filter test xs)
-
-  pub last_taken : (segments before : List SegmentFeatures) (segment : SegmentFeatures) (old new : List SegmentCandidates) (source : SegmentCandidates) (all : List Item) → segments ≡ before ++ (segment ∷ []) → new ≡ old ++ (source ∷ []) → segment_left source ≡ filter test segment.features → filter test (joined segments) ++ all_left old ≡ all → filter test (joined before) ++ all_left new ≡ all
-  last_taken segments before segment old new source all are added is same =
-      ap (λ ss. filter test (joined before) ++ all_left ss) added
-      ∙ ap (λ xs. filter test (joined before) ++ xs) (last_left old source ∙ ap (λ xs. xs ++ all_left old) is)
-      ∙ sym (append_assoc (filter test (joined before)) (filter test segment.features) (all_left old))
-      ∙ ap (λ xs. xs ++ all_left old) (sym (ap (λ ss. filter test (joined ss)) are ∙ ap (filter test) (last_joined before segment) ∙ filter-append test (joined before) segment.features))
-      ∙ same
-
   none_wanted : (extents : Extents) (xs : List Item) → AllByRecursion (IsWithin extents) xs → ((x : Item) → IsWithin extents x → test x ≡ false) → filter test xs ≡ []
   none_wanted extents [] all fails = refl
   none_wanted extents (x ∷ xs) all fails = rw (fails x all.0) (none_wanted extents xs all.1 fails)
 
   -- a segment that has no candidates
-  pub last_left_out : (segments before : List SegmentFeatures) (segment : SegmentFeatures) (extents : Extents) (sources : List SegmentCandidates) (all : List Item) → segments ≡ before ++ (segment ∷ []) → AllByRecursion (IsWithin extents) segment.features → ((x : Item) → IsWithin extents x → test x ≡ false) → filter test (joined segments) ++ all_left sources ≡ all → filter test (joined before) ++ all_left sources ≡ all
-  last_left_out segments before segment extents sources all are within fails same =
-      let none = none_wanted extents segment.features within fails in
-      let whole = ap (λ ss. filter test (joined ss)) are ∙ ap (filter test) (last_joined before segment) ∙ filter-append test (joined before) segment.features ∙ ap (λ xs. filter test (joined before) ++ xs) none ∙ append-nil (filter test (joined before)) in
-      ap (λ xs. xs ++ all_left sources) (sym whole) ∙ same
-
-  pub all_taken : (segments : List SegmentFeatures) (sources : List SegmentCandidates) (all : List Item) → length segments ≡ 0 → filter test (joined segments) ++ all_left sources ≡ all → all_left sources ≡ all
-  all_taken segments sources all none same = ap (λ ss. filter test (joined ss) ++ all_left sources) (sym (nil_from_length segments none)) ∙ same
+  pub nothing_opened : (extents : Extents) (xs : List Item) (last : Option (ℤ × ℤ)) → AllByRecursion (IsWithin extents) xs → ((x : Item) → IsWithin extents x → test x ≡ false) → [] ≡ later last (filter test xs)
+  nothing_opened extents xs last within fails = sym (ap (later last) (none_wanted extents xs within fails))
 
   pub few_wanted : (xs left : List Item) (count : ℕ) → count ≡ length xs → count < 2 ^ 64 → left ≡ filter test xs → length left < 2 ^ 64
   few_wanted xs left count counted small is = omega (arith, counted, small, ap length is, filter_fewer test xs)
@@ -57,64 +40,87 @@ module _ (test : Item → Bool) where
   pub ascending_wanted : (xs left : List Item) → IsStrictlySortedBy by_identifier xs → left ≡ filter test xs → IsStrictlySortedBy by_identifier left
   ascending_wanted xs left up is = subst (IsStrictlySortedBy by_identifier) (sym is) (IsStrictlySortedBy-filter by_identifier test xs up)
 
--- ---- from the front
+-- ---- the next segment
 
-module _ (sources : List SegmentCandidates) (at : ℕ) (first new : SegmentCandidates) (is_last : at + 1 ≡ length sources) (is : first ≡ slice_index_or sources at first) where
-  abbrev others : List SegmentCandidates
-  others = take at sources
+module _ (sought : Sought) (after : Option (ObjectId × ℕ)) where
+  abbrev named : Option (ℤ × ℤ)
+  named = option_map identifier after
 
-  abbrev changed : List SegmentCandidates
-  changed = slice_set sources at new
+  pub segment_opened : (opened : Option SegmentCandidates) (segment : SegmentFeatures) (segments behind : List SegmentFeatures) → segments ≡ segment ∷ behind
+      → opened_left opened ≡ later named (filter (is_sought sought) segment.features) → opened_left opened ++ unopened_left sought after behind ≡ unopened_left sought after segments
+  segment_opened opened segment segments behind are is =
+      ap (λ xs. xs ++ unopened_left sought after behind) is
+      ∙ sym (filter-append (is_later named) (filter (is_sought sought) segment.features) (filter (is_sought sought) (joined behind)))
+      ∙ ap (later named) (sym (filter-append (is_sought sought) segment.features (joined behind)))
+      ∙ ap (unopened_left sought after) (sym are)
 
-  before_it : all_left sources ≡ segment_left first ++ all_left others
-  before_it =
-      ap all_left (sym (take_all (at + 1) sources (omega (arith, is_last))) ∙ take_more sources at first (omega (arith, is_last)) ∙ ap (λ s. others ++ (s ∷ [])) (sym is))
-      ∙ last_left others first
+  -- ---- after a search
 
-  after_it : all_left changed ≡ segment_left new ++ all_left others
-  after_it =
-      ap all_left (sym (take_all (at + 1) changed (omega (arith, is_last, length-set sources at new))) ∙ take_more_set sources at new (omega (arith, is_last)))
-      ∙ last_left others new
+  pub segments_sought : (last : ℤ × ℤ) (next : ObjectId × ℕ) (opened closer : Option SegmentCandidates) (segments rest : List SegmentFeatures)
+      → ((xs : List Item) → later (Some (identifier next)) xs ≡ later (Some last) (later named xs))
+      → later (Some last) (joined rest) ≡ later (Some last) (joined segments) → opened_left closer ≡ later (Some last) (opened_left opened)
+      → opened_left closer ++ unopened_left sought (Some next) rest ≡ later (Some last) (opened_left opened ++ unopened_left sought after segments)
+  segments_sought last next opened closer segments rest both same is =
+      let l = is_later (Some last) in
+      let test = is_sought sought in
+      ap₂ (λ xs ys. xs ++ ys) is
+      (both (filter test (joined rest))
+      ∙ turned l (is_later named) (filter test (joined rest))
+      ∙ ap (later named) (turned l test (joined rest) ∙ ap (filter test) same ∙ sym (turned l test (joined segments)))
+      ∙ sym (turned l (is_later named) (filter test (joined segments))))
+      ∙ sym (filter-append l (opened_left opened) (unopened_left sought after segments))
 
-  all_but_one : length changed - 1 ≡ at
-  all_but_one = omega (arith, is_last, length-set sources at new)
+-- ---- after the first is taken, or an error
 
-  pub first_given : (x : Item) → segment_left first ≡ x ∷ segment_left new → all_left sources ≡ x ∷ all_left changed
-  first_given x given = before_it ∙ ap (λ xs. xs ++ all_left others) given ∙ ap (λ xs. x ∷ xs) (sym after_it)
+module _ {E : Type 0} where
+  pub left_rises : (result : Result (Option (Bor Item)) E) (old new : List Item) → IfOk result (λ found. IsTaken found old new) → IfErr result (λ error. new ≡ old) → IsStrictlySortedBy by_identifier old → IsStrictlySortedBy by_identifier new
+  left_rises (Ok found) old new taken same up = taken_rises found old new taken up
+  left_rises (Err error) old new taken same up = subst (IsStrictlySortedBy by_identifier) (sym same) up
 
-  pub first_dropped : (rest : List SegmentCandidates) → segment_left first ≡ [] → rest ≡ take (length changed - 1) changed → all_left rest ≡ all_left sources
-  first_dropped rest none are =
-      ap all_left (are ∙ ap (λ n. take n changed) all_but_one ∙ take-set sources at new)
-      ∙ sym (before_it ∙ ap (λ xs. xs ++ all_left others) none)
+  pub left_few : (result : Result (Option (Bor Item)) E) (old new : List Item) → IfOk result (λ found. IsTaken found old new) → IfErr result (λ error. new ≡ old) → length old < 2 ^ 64 → length new < 2 ^ 64
+  left_few (Ok found) old new taken same few = fewer_left found old new taken few
+  left_few (Err error) old new taken same few = omega (arith, ap length same, few)
 
--- ---- after a search
+-- ---- the later one of two
 
-module _ (last : Option (ℤ × ℤ)) (before now : List SegmentCandidates) (at : ℕ) (long : length now ≡ length before) where
-  -- those before a place were sought, and the others stand as they were
-  abbrev pub AreSought : Type 0
-  AreSought = (all_left (take at now) ≡ later last (all_left (take at before))) × (drop at now ≡ drop at before)
+module _ (p q : Item → Bool) (stronger : (x : Item) → p x ≡ true → q x ≡ true) where
+  stronger_alone : (xs : List Item) → filter q (filter p xs) ≡ filter p xs
+  stronger_alone [] = refl
+  stronger_alone (x ∷ xs) = here (p x) refl (stronger_alone xs)
+    where
+      here : (b : Bool) → p x ≡ b → filter q (filter p xs) ≡ filter p xs → filter q (cond b (x ∷ filter p xs) (filter p xs)) ≡ cond b (x ∷ filter p xs) (filter p xs)
+      here true e rest = rw (stronger x e) (ap (λ ys. x ∷ ys) rest)
+      here false e rest = rest
 
-  module _ (d new : SegmentCandidates) (h : at < length before) (left : segment_left new ≡ later last (segment_left (get_or now at d))) (sought : AreSought) where
-    abbrev changed_there : List SegmentCandidates
-    changed_there = slice_set now at new
+less_is : (a b : ℤ × ℤ) → is_gt (identifier_cmp a b) ≡ true → identifier_cmp b a ≡ Less
+less_is a b e = go (identifier_cmp a b) refl e
+  where
+    go : (o : Ordering) → identifier_cmp a b ≡ o → is_gt o ≡ true → identifier_cmp b a ≡ Less
+    go Less is t = absurd (true≢false (sym t))
+    go Equal is t = absurd (true≢false (sym t))
+    go Greater is t = identifiers_total.antisymm b a ∙ ap ordering_reverse is
 
-    from_there : get_or now at d ∷ drop (at + 1) now ≡ get_or before at d ∷ drop (at + 1) before
-    from_there = sym (drop_more now at d (omega (arith, long, h))) ∙ sought.1 ∙ drop_more before at d h
+gt_is : (a b : ℤ × ℤ) → identifier_cmp a b ≡ Less → is_gt (identifier_cmp b a) ≡ true
+gt_is a b e = ap is_gt (identifiers_total.antisymm b a ∙ ap ordering_reverse e)
 
-    stood : get_or now at d ≡ get_or before at d
-    stood = ap (λ ss. get_or ss 0 d) from_there
+-- what comes after the later one comes after the other
+after_both : (a l : ℤ × ℤ) → is_gt (identifier_cmp a l) ≡ true → (x : Item) → comes_after a x ≡ true → comes_after l x ≡ true
+after_both a l later x h = gt_is l (identifier_of x) (identifiers_total.trans l a (identifier_of x) (less_is a l later) (less_is (identifier_of x) a h))
 
-    pub one_more_sought : all_left (take (at + 1) changed_there) ≡ later last (all_left (take (at + 1) before))
-    one_more_sought =
-        ap all_left (take_more_set now at new (omega (arith, long, h))) ∙ last_left (take at now) new
-        ∙ ap (λ xs. xs ++ all_left (take at now)) (left ∙ ap (λ s. later last (segment_left s)) stood)
-        ∙ ap (λ xs. later last (segment_left (get_or before at d)) ++ xs) sought.0
-        ∙ sym (ap (later last) (ap all_left (take_more before at d h) ∙ last_left (take at before) (get_or before at d))
-        ∙ filter-append (is_later last) (segment_left (get_or before at d)) (all_left (take at before)))
+after_first : (a l : ℤ × ℤ) → is_gt (identifier_cmp a l) ≡ false → (x : Item) → comes_after l x ≡ true → comes_after a x ≡ true
+after_first a l isnt x h = go (identifier_cmp a l) refl
+  where
+    go : (o : Ordering) → identifier_cmp a l ≡ o → comes_after a x ≡ true
+    go Less e = gt_is a (identifier_of x) (identifiers_total.trans a l (identifier_of x) e (less_is (identifier_of x) l h))
+    go Equal e = subst (λ i. comes_after i x ≡ true) (sym (equal_is a l e)) h
+    go Greater e = absurd (true≢false (sym (ap is_gt e) ∙ isnt))
 
-    pub others_stand : drop (at + 1) changed_there ≡ drop (at + 1) before
-    others_stand = drop-set-lt (at + 1) now at new (omega arith) ∙ ap (drop 1) from_there
+pub later_named : (a l : ℤ × ℤ) → is_gt (identifier_cmp a l) ≡ true → (xs : List Item) → later (Some a) xs ≡ later (Some l) (later (Some a) xs)
+later_named a l h xs = sym (stronger_alone (is_later (Some a)) (is_later (Some l)) (after_both a l h) xs)
 
-  pub all_sought : length before ≤ at → AreSought → all_left now ≡ later last (all_left before)
-  all_sought h sought =
-      ap all_left (sym (take_all at now (omega (arith, long, h)))) ∙ sought.0 ∙ ap (λ ss. later last (all_left ss)) (take_all at before h)
+pub no_later_named : (a l : ℤ × ℤ) → is_gt (identifier_cmp a l) ≡ false → (xs : List Item) → later (Some l) xs ≡ later (Some l) (later (Some a) xs)
+no_later_named a l h xs =
+    sym (stronger_alone (is_later (Some l)) (is_later (Some a)) (after_first a l h) xs) ∙ turned (is_later (Some a)) (is_later (Some l)) xs
+
+pub none_named : (l : ℤ × ℤ) (xs : List Item) → later (Some l) xs ≡ later (Some l) (later None xs)
+none_named l xs = ap (later (Some l)) (all_later xs)

@@ -3,10 +3,10 @@ use Rattle.std.specs.Prelude.{◌<◌, ◌^◌, List, length}
 use Rattle.std.specs.List.Sorted.{IsStrictlySortedBy}
 use Rattle.cad_feature.specs.Features.{Item, by_identifier}
 use Rattle.cad_run.specs.declared.candidates.Candidates.{Candidates}
-use Rattle.cad_run.specs.SegmentLeft.{all_left}
+use Rattle.cad_run.specs.SegmentLeft.{segments_left}
 
 abbrev pub candidates_left : Candidates → List Item
-candidates_left c = all_left c.sources.items
+candidates_left c = segments_left c.segments
 
 pub left_ascends : (c : Candidates) → IsStrictlySortedBy by_identifier (candidates_left c)
 left_ascends c = c.ascending

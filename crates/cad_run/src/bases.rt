@@ -5,8 +5,8 @@ ghost use Rattle.std.specs.List.Sorted.{IsStrictlySortedBy};
 ghost use Rattle.std.proofs.Props.{props};
 ghost use Rattle.cad_feature.specs.Features.{by_identifier};
 
-use crate::feature_source::FeatureSource;
 use crate::first_later::first_later;
+use crate::indexed_source::IndexedSource;
 use crate::planned::source_of;
 use crate::sought::{Sought, is_at};
 use cad_feature::Feature;
@@ -82,14 +82,10 @@ impl<'a> Bases<'a> {
     }
 }
 
-impl<'a> FeatureSource<'a> for Bases<'a> {
-    ghost use Rattle.cad_run.specs.Bases.{rows_ascend, rows_bounded, rows_left};
+impl<'a> IndexedSource<'a> for Bases<'a> {
+    ghost use Rattle.cad_run.specs.Bases.{rows_left};
 
     ghost left = { rows_left };
-
-    ghost ascends = { rows_ascend };
-
-    ghost bounded = { rows_bounded };
 
     fn next(&mut self) -> Option<&'a Feature> {
         while let Some(row) = self.rows.next() {

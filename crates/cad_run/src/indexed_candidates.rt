@@ -9,7 +9,7 @@ ghost use Rattle.cad_run.specs.Bases.{rows_left};
 ghost use Rattle.cad_run.specs.Peeked.{peeked_left};
 
 use crate::bases::Bases;
-use crate::feature_source::FeatureSource;
+use crate::indexed_source::IndexedSource;
 use crate::peeked::Peeked;
 use crate::replaced::is_replaced;
 use crate::sought::Sought;
@@ -66,14 +66,10 @@ impl<'a> IndexedCandidates<'a> {
     }
 }
 
-impl<'a> FeatureSource<'a> for IndexedCandidates<'a> {
-    ghost use Rattle.cad_run.specs.IndexedLeft.{indexed_ascends, indexed_bounded, indexed_left};
+impl<'a> IndexedSource<'a> for IndexedCandidates<'a> {
+    ghost use Rattle.cad_run.specs.IndexedLeft.{indexed_left};
 
     ghost left = { indexed_left };
-
-    ghost ascends = { indexed_ascends };
-
-    ghost bounded = { indexed_bounded };
 
     fn next(&mut self) -> Option<&'a Feature> {
         self.drop_replaced();

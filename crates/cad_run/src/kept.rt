@@ -43,7 +43,7 @@ impl<'a, S: FeatureSource<'a>> Kept<S> {
         ensures none { IfOk result (λ r. MatchOption r ((n : ℕ) → self.old.examined + examined_of (T.passes test.now) n (S.left self.old.source) ≡ self.new.examined) (λ x. Unit {0})) }
         ensures few { IfOk result (λ r. MatchOption r (Unit {0}) (λ x. self.new.examined + length (S.left self.new.source) ≤ self.old.examined + length (S.left self.old.source))) }
     {
-        while let Some(feature) = self.source.next() {
+        while let Some(feature) = self.source.next()? {
             self.examined += 1;
             if test.test(feature)? {
                 return Ok(Some(feature));

@@ -3,12 +3,11 @@
 //! - [`page`]: the first of a plan's candidates that pass a test, after a named one, and whether more are left: a
 //!   [`Page`], with how many were tested
 //! - [`FeatureSource`]: features that are taken one after the other, in the order of identifiers, or dropped up to a named one
-//! - [`Candidates`]: a plan's candidates as such a source
+//! - [`Candidates`]: a plan's candidates as such a source, which asks the indexes of a segment when it comes to it
 //! - [`Kept`]: the features of any source that a test keeps, and how many were tested
 //! - [`RowSource`]: positions one after the other, from which a base's candidates are made
 //! - [`page_of`]: the same of any source
 //! - [`candidate_count`], [`count_of`]: how many candidates a plan has, and how many features a source has left
-//! - [`Peeked`]: a source whose first feature is looked at before it is taken
 //! - [`FeatureTest`]: a test of features
 //! - [`Layer`], [`Plan`]: the features with their indexes, and which of them are looked at
 //!
@@ -25,6 +24,7 @@ mod feature_test;
 mod finding;
 mod first_later;
 mod indexed_candidates;
+mod indexed_source;
 mod joining;
 mod kept;
 mod paging;
@@ -35,6 +35,7 @@ mod presence;
 mod replaced;
 mod rows;
 mod segment_candidates;
+mod segments_left;
 mod sought;
 
 pub use cad_layer::Layer;
@@ -46,5 +47,4 @@ pub use feature_source::FeatureSource;
 pub use feature_test::FeatureTest;
 pub use kept::Kept;
 pub use paging::{page, page_of};
-pub use peeked::Peeked;
 pub use rows::Page;

@@ -68,7 +68,7 @@ pub fn page<'a, T: FeatureTest>(
     ensures examined { IfOk result (λ page. page.examined
         ≡ examined_of (T.passes test.now) limit (later (option_map identifier after) (candidates plan.now layer.now.features))) }
 {
-    let all = Candidates::of(alloc, plan, layer)?;
+    let all = Candidates::of(alloc, plan, layer);
     let page = page_of(alloc, all, test, after, limit)?;
     Ok(page)
 }

@@ -1,5 +1,5 @@
 -- Changes in segments are changes in all that they hold, and all versions of an object are in one of them.
-use Rattle.std.proofs.Common.{◌≡◌, ◌∙◌, ℕ, ◌<◌, ◌≤◌, Bool, true, false, cond, not, List, [], ◌∷◌, ◌++◌, filter, refl, sym, ap, subst, arith, append-nil, Ordering, Less, Equal, Greater}
+use Rattle.std.proofs.Common.{◌≡◌, ◌∙◌, ℕ, ◌<◌, ◌≤◌, Bool, true, false, cond, not, List, [], ◌∷◌, ◌++◌, filter, refl, sym, ap, subst, arith, append-nil, Ordering, Less, Equal, Greater, pos, is_gt}
 use Rattle.std.specs.Cmp.{IsTotalOrder}
 use Rattle.std.specs.List.{AllByRecursion}
 use Rattle.std.specs.List.Sorted.{IsStrictlySortedBy}
@@ -13,7 +13,8 @@ use Rattle.cad_versions.specs.lemmas.ListLemmas.{all_weaker}
 use Rattle.cad_versions.specs.Objects.{object_number}
 use Rattle.cad_schema.specs.declared.collection.Collection.{Collection}
 use Rattle.cad_feature.specs.Features.{Item, by_identifier}
-use Rattle.cad_layer.specs.Identifiers.{is_item_of, of_object}
+use Rattle.std.specs.Ordering.{int_cmp, ordering_then}
+use Rattle.cad_layer.specs.Identifiers.{comes_after, identifier, is_item_of, items_after, of_object}
 use Rattle.cad_layer.specs.lemmas.ItemLemmas.{items_total}
 use Rattle.cad_layer.specs.Merging.{put, put_at, merged}
 use Rattle.cad_layer.specs.lemmas.MergeLemmas.{all_merged, put_behind, put_front}
@@ -143,6 +144,19 @@ module _ (object : ObjectId) where
   pub stopped : (s t : SegmentFeatures) (ss : List SegmentFeatures) → AreSegments (s ∷ t ∷ ss) → object_number object < t.start → of_object object (joined (s ∷ t ∷ ss)) ≡ of_object object s.features
   stopped s t ss apart h =
       filter-append (is_item_of object) s.features (joined (t ∷ ss)) ∙ ap (λ xs. of_object object s.features ++ xs) (none_from t.start (joined (t ∷ ss)) h apart.0.1) ∙ append-nil (of_object object s.features)
+
+  -- a version of the object comes after all of them
+  none_after : (number k : ℕ) (x : Item) → k ≤ object_number object → IsBelow k x → comes_after (identifier object number) x ≡ false
+  none_after number k x h low =
+      let less : int_cmp (pos (object_number x.object)) (pos (object_number object)) ≡ Less = grind (arith, ints, nat_tests) in
+      ap (λ o. is_gt (ordering_then o (int_cmp (pos x.number) (pos number)))) less
+
+  pub passed : (number : ℕ) (s t : SegmentFeatures) (ss : List SegmentFeatures) → AreSegments (s ∷ t ∷ ss) → t.start ≤ object_number object
+      → items_after (identifier object number) (joined (s ∷ t ∷ ss)) ≡ items_after (identifier object number) (joined (t ∷ ss))
+  passed number s t ss apart h =
+      let after = comes_after (identifier object number) in
+      filter-append after s.features (joined (t ∷ ss))
+      ∙ ap (λ xs. xs ++ filter after (joined (t ∷ ss))) (none_kept after s.features (all_weaker (IsBelow t.start) (λ x. after x ≡ false) (λ x low. none_after number t.start x h low) s.features apart.0.0))
 
   pub alone : (s : SegmentFeatures) → of_object object (joined (s ∷ [])) ≡ of_object object s.features
   alone s = ap (of_object object) (append-nil s.features)

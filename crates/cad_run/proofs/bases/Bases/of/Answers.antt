@@ -1,4 +1,4 @@
-use Rattle.std.proofs.Common.{◌≡◌, ◌∙◌, List, sym}
+use Rattle.std.proofs.Common.{◌≡◌, ◌∙◌, List}
 use Rattle.std.proofs.lemmas.Result.{IfOk-weaker}
 use Rattle.cad_feature.specs.Features.{Item}
 use Rattle.cad_run.specs.Bases.{rows_left}

@@ -1,4 +1,5 @@
-use Rattle.std.proofs.Common.{◌∙◌, ap, filter}
+use Rattle.std.proofs.Common.{◌∙◌, ap, filter, subst, sym}
+use Rattle.cad_layer.specs.Segments.{AreSegments}
 use Rattle.cad_run.specs.Sought.{is_sought}
 use Rattle.cad_run.proofs.SourceLemmas.{ascending_wanted, few_wanted}
 use Rattle.cad_run.proofs.candidates.Candidates.sought.Goals as goal
@@ -7,8 +8,12 @@ pub invariant_of-result : goal.invariant_of-result
 invariant_of-result c =
     let xs = c.args.layer.now.features in
     let test = is_sought c.args.sought in
-    let left = c.in_ok-sources.ensures ∙ ap (filter test) c.segments.ensures in
+    let left = c.new-segments.ensures.left ∙ ap (filter test) c.segments.ensures.all in
     record {
+      apart = subst AreSegments (sym c.new-segments.ensures.unopened) c.segments.ensures.apart;
       ascending = ascending_wanted test xs _ c.collection-collection.ensures.listed.ascending left;
       few = few_wanted test xs _ c.count-count.result c.count-count.ensures c.count-count.type_inv left;
     }
+
+pub returns : goal.returns
+returns c = c.new-segments.ensures.left ∙ ap (filter (is_sought c.args.sought)) c.segments.ensures.all

@@ -7,7 +7,7 @@ use Rattle.cad_run.specs.Slices.{identifier, is_later}
 use Rattle.cad_run.specs.Sought.{is_in_time}
 use Rattle.cad_run.specs.lemmas.TakenLemmas.{turned}
 use Rattle.cad_run.proofs.PageLemmas.{rows_sought}
-use Rattle.cad_run.proofs.bases.BasesFeatureSource.seek.Goals as goal
+use Rattle.cad_run.proofs.bases.BasesIndexedSource.seek.Goals as goal
 
 pub returns : goal.returns
 returns c =

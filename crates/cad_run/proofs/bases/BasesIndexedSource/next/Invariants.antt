@@ -2,7 +2,7 @@ use Rattle.std.proofs.Common.{◌≡◌, length}
 use Rattle.cad_positions.specs.AllRows.{rows_of}
 use Rattle.cad_positions.specs.Rest.{left_in}
 use Rattle.cad_run.specs.Bases.{rows_left}
-use Rattle.cad_run.proofs.bases.BasesFeatureSource.next.Given as goal
+use Rattle.cad_run.proofs.bases.BasesIndexedSource.next.Given as goal
 
 abbrev pub invariant-loop-row : goal.invariant-loop-row
 invariant-loop-row l = record {

@@ -2,7 +2,7 @@ use Rattle.std.proofs.Common.{Some}
 use Rattle.cad_run.specs.Slices.{identifier}
 use Rattle.cad_run.proofs.LeftLemmas.{sought_in_order}
 use Rattle.cad_run.proofs.StandingLemmas.{sought_indexed}
-use Rattle.cad_run.proofs.indexed_candidates.IndexedCandidatesFeatureSource.seek.Goals as goal
+use Rattle.cad_run.proofs.indexed_candidates.IndexedCandidatesIndexedSource.seek.Goals as goal
 
 pub invariant_of-self : goal.invariant_of-self
 invariant_of-self c = record {

@@ -8,7 +8,7 @@ use Rattle.cad_run.specs.Standing.{standing, stands}
 use Rattle.cad_layer.specs.Walks.{all_in}
 use Rattle.cad_run.proofs.FrontLemmas.{IsTaken, taken_behind, taken_rises, without_rises}
 use Rattle.cad_run.proofs.StandingLemmas.{base_comes, change_comes}
-use Rattle.cad_run.proofs.indexed_candidates.IndexedCandidatesFeatureSource.next.Goals as goal
+use Rattle.cad_run.proofs.indexed_candidates.IndexedCandidatesIndexedSource.next.Goals as goal
 
 pub invariant_of-self : goal.invariant_of-self
 invariant_of-self c =
