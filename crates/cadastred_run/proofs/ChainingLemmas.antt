@@ -16,6 +16,7 @@ module _ {L J : Type 0} (g : Ghosts L) (j : JournalGhosts L J) where
     same = has.same;
     reads = record {
       ready = λ none. has.reads.ready (sym keeps.rows ∙ none);
+      noted = tt;
       cause = λ counts. tt;
       reads = record {
         store = λ counts. tt;
