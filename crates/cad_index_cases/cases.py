@@ -3,8 +3,8 @@
 
 The answers come from a look at every value, and not from an index: a cell is a square of 65,536 mm with its left and its
 lower edge, and a box touches it where the two share a point; texts are ordered by code point, as Python orders them. What extents say
-comes from the least and the greatest of all values, from the least block of cells around all shapes, or from the squares of cells that
-shapes touch.
+comes from the least and the greatest of all values, from the marks of their places, from the least block of cells around all shapes, or
+from the squares of cells that shapes touch.
 """
 from pathlib import Path
 from random import Random
@@ -16,6 +16,12 @@ PLANE = (-EDGE, -EDGE, EDGE, EDGE)
 SQUARE, FIRST_CELL = 8, -1_525_879
 # Squares this many columns or rows apart share a mark. A box that reaches over more is compared with the block alone.
 MARKS = 64
+# Numbers have as many places as marks. A text has the place that its characters give as digits, by this base and this modulus.
+WHOLES, FACTOR, TEXTS = 65_536, 257, 65_521
+# Numbers are looked up if they are fewer than this, and none of them is the greatest of 64 bits.
+MOST_NUMBERS = 64
+# Days have no place.
+DAY_NAMES = ("begin", "end")
 
 
 def reaches(low, high, number):
@@ -90,14 +96,45 @@ def may_be_near(shapes, asked):
     return reaches_far(asked) or any(marks(shape) & marks(asked) for shape in shapes)
 
 
-def may_lie_in(values, low, high):
+def place(value):
+    """The mark of a number or of a text."""
+    if isinstance(value, int):
+        return value % WHOLES
+    at = 0
+    for character in value:
+        at = (at * FACTOR + ord(character)) % TEXTS
+    return at
+
+
+def looked_up(low, high):
+    """The values from one end to the other, if their marks are looked up one by one."""
+    if "free" in (low, high) or low[0] != "with" or high[0] != "with":
+        return None
+    if isinstance(low[1], int):
+        are_few = high[1] - low[1] + 1 < MOST_NUMBERS and high[1] < 2**63 - 1
+        return range(low[1], high[1] + 1) if are_few else None
+    return [low[1]] if low[1] == high[1] else None
+
+
+def may_be_noted(values, low, high):
+    """Whether one of the values between the ends has the mark of one that is there, or their marks are not looked up."""
+    asked = looked_up(low, high)
+    marked = {place(value) for value in values}
+    return asked is None or any(place(value) in marked for value in asked)
+
+
+def reaches_values(values, low, high):
     """Whether there are values, and, if they are numbers, some from the least to the greatest could lie there."""
-    values = [value for value in values if value is not None]
     if not values or not isinstance(values[0], int):
         return bool(values)
     least, greatest = min(values), max(values)
     reaches_low = low == "free" or low[1] < greatest or (low[0] == "with" and low[1] == greatest)
     return reaches_low and (high == "free" or least < high[1] or (high[0] == "with" and least == high[1]))
+
+
+def may_lie_in(values, low, high, are_days):
+    values = [value for value in values if value is not None]
+    return reaches_values(values, low, high) and (are_days or may_be_noted(values, low, high))
 
 
 def told_by_extents(may):
@@ -130,7 +167,7 @@ def range_case(name, values, low, high):
     text = listed(found)
     return (
         f"{name} {words} ? {edge_word(low)} {edge_word(high)}",
-        f"range{text} count {len(found)} {told_by_extents(may_lie_in(values, low, high))}",
+        f"range{text} count {len(found)} {told_by_extents(may_lie_in(values, low, high, name in DAY_NAMES))}",
     )
 
 
@@ -262,6 +299,51 @@ def ranges(random):
     yield range_case("area", [5, None, 7], ("with", -(2**63)), ("without", 2**63 - 1))
     yield range_case("object", list(range(1, 151)), ("with", 3), ("with", 3))
     yield range_case("object", list(range(1, 151)), ("without", 3), ("with", 120))
+
+
+def same(value):
+    return ("with", value), ("with", value)
+
+
+def noted_values():
+    """Values that are there, that are not, and that are not there but have the place of one that is."""
+    for number in [0, 4, 5, 6, 7, 8]:
+        yield range_case("area", [5, None, 7], *same(number))
+    for number in [0, 3, 65_535, 65_536, 65_538, 65_539, 65_540, 131_075, 200_000, 4_294_967_295]:
+        yield range_case("area", [3, 200_000], *same(number))
+    yield range_case("area", [3, 60_000], *same(65_539))
+    yield range_case("area", [65_535, 4_294_967_295], *same(131_071))
+    yield range_case("area", [0, 4_294_967_295], *same(131_072))
+    # up to 63 numbers are looked up
+    for low, high in [(1, 62), (1, 63), (1, 64), (36, 99), (37, 99), (38, 99), (38, 100), (99, 99), (0, 62), (100, 100), (50, 40), (101, 163), (338, 400), (337, 399)]:
+        yield range_case("area", [0, 100, None, 400], ("with", low), ("with", high))
+    # numbers past a multiple of 65,536
+    for low, high in [(65_530, 65_537), (65_530, 65_538), (65_539, 65_590)]:
+        yield range_case("area", [2, 100_000], ("with", low), ("with", high))
+    # an end that is left out, and no end
+    for low, high in [(("without", 5), ("without", 7)), (("with", 6), ("without", 7)), (("without", 5), ("with", 6)), (("with", 6), "free"), ("free", ("with", 6))]:
+        yield range_case("area", [5, 7], low, high)
+    for number in [2**63 - 1, -(2**63), -1]:
+        yield range_case("area", [5, 7], *same(number))
+    for label in ["a", "b", "c", "A", "ab", "ba", "\u00e9", "\U0010ffff"]:
+        yield range_case("label", ["a", "b", "ab"], *same(label))
+    # labels with one place
+    for label in ["ba", "a\u0162", "ab", "b", "\u62c3"]:
+        yield range_case("label", ["ba", "z"], *same(label))
+        yield range_case("label", ["a\u0162", "z"], *same(label))
+    # two labels with others between them, or with none
+    for low, high in [("a", "b"), ("b", "a"), ("c", "d")]:
+        yield range_case("label", ["a", "b"], ("with", low), ("with", high))
+    yield range_case("label", ["a", "c"], ("without", "b"), ("with", "b"))
+    # longer labels, and many
+    for label in ["x" * 99, "x" * 100, "x" * 101, "y" + "x" * 99]:
+        yield range_case("label", ["x" * 100], *same(label))
+    for label in ["p1", "p150", "p151", "q1"]:
+        yield range_case("label", [f"p{number}" for number in range(1, 151)], *same(label))
+    # days have no place
+    for day in ["2000-02-29", "2000-03-01"]:
+        yield range_case("begin", ["2000-02-29", "2001-01-01"], *same(day))
+        yield range_case("end", [None, None], *same(day))
 
 
 # How many features a segment is cut of, how many times parcels are merged in, and the most changes.
@@ -537,7 +619,7 @@ UNREAD = [
 
 def main():
     random = Random(65_536)
-    cases = [("# Boxes", None), *named_boxes(), *drawn_boxes(random), ("# Squares", None), *square_boxes(), ("# Ranges", None), *ranges(random), ("# Layers", None), *layers(), ("# Lists of changes", None), *lists(), ("# As many times as a line may say", None), layer_case("a b c d e f g h".split(), 3, 65535, 40, ["x"]), ("# Histories", None), *histories(random), ("# Counts at revisions", None), *counts_in_ranges(random), *counts_near_boxes(random), ("# Lines that are no cases", None), *((line, "unread") for line in UNREAD)]
+    cases = [("# Boxes", None), *named_boxes(), *drawn_boxes(random), ("# Squares", None), *square_boxes(), ("# Ranges", None), *ranges(random), ("# Values that are noted", None), *noted_values(), ("# Layers", None), *layers(), ("# Lists of changes", None), *lists(), ("# As many times as a line may say", None), layer_case("a b c d e f g h".split(), 3, 65535, 40, ["x"]), ("# Histories", None), *histories(random), ("# Counts at revisions", None), *counts_in_ranges(random), *counts_near_boxes(random), ("# Lines that are no cases", None), *((line, "unread") for line in UNREAD)]
     here = Path(__file__).parent
     (here / "stdin").write_text("".join(f"{asked}\n" for asked, _ in cases), encoding="utf-8")
     (here / "stdout").write_text("".join(f"{answer}\n" for _, answer in cases if answer is not None), encoding="utf-8")

@@ -16,7 +16,7 @@ set_held P (x ∷ xs) (suc i) y d l h others (suc k) = set_held (λ k e. P (suc 
 
 -- any value is one of any
 pub any_held : (d : Datum) → Holds any d
-any_held d = (refl, go (block_in d))
+any_held d = (refl, tt, go (block_in d))
   where
     go : (b : Option Block) → HoldsCells cells.Any b
     go None = tt

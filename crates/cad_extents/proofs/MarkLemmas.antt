@@ -23,7 +23,7 @@ within a b c d h k x y =
     (max a c / 8, (omega arith, omega arith), (omega arith, omega arith))
 
 -- cells of which each square is marked share no cell with cells of which none is
-pub free_apart : (m : Marks) (cells asked : Cells) → AreMarked m cells → AreFree m asked → share_a_cell (block_at cells) (block_at asked) ≡ false
+pub free_apart : (m : Marks 64) (cells asked : Cells) → AreMarked m cells → AreFree m asked → share_a_cell (block_at cells) (block_at asked) ≡ false
 free_apart m cells asked marked free = go (share_a_cell (block_at cells) (block_at asked)) refl
   where
     go : (b : Bool) → share_a_cell (block_at cells) (block_at asked) ≡ b → b ≡ false
@@ -48,5 +48,5 @@ not_shared covered asked free own held =
     go false e a = a
 
 -- with the same marks, the same shapes are covered
-pub copy_covers : (covered : Covered) (marks : Marks) → marks.words.items ≡ covered.marks.words.items → (b : Block) → IsCovered covered b → IsCovered (record covered { marks = marks }) b
+pub copy_covers : (covered : Covered) (marks : Marks 64) → marks.words.items ≡ covered.marks.words.items → (b : Block) → IsCovered covered b → IsCovered (record covered { marks = marks }) b
 copy_covers covered marks same b held = (held.0, (held.1.0, held.1.1, λ row low high column left right. subst (λ ws. bit_at (get_or ws (place_at row column / 64) 0) (place_at row column % 64) ≡ 1) (sym same) (held.1.2 row low high column left right)))

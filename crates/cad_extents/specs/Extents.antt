@@ -7,10 +7,12 @@ use Rattle.cad_grid.specs.declared.cells.Cells.{Cells}
 use Rattle.cad_feature.specs.Features.{Item, datum_at}
 use Rattle.cad_feature.specs.Values.{Datum, a_whole}
 use Rattle.cad_range.specs.Ranges.{has_order}
+use Rattle.cad_extents.specs.Places.{IsNoted}
 use Rattle.cad_extents.specs.Squares.{AreMarked}
 use Rattle.cad_extents.specs.declared.covered.Covered.{Covered}
 use Rattle.cad_extents.specs.declared.values.ValueExtent.{ValueExtent}
 use Rattle.cad_extents.specs.declared.values.ValueExtent.TheVariants as values
+use Rattle.cad_extents.specs.declared.noted.NotedValues.TheVariants as noted
 use Rattle.cad_extents.specs.declared.cells.CellExtent.{CellExtent}
 use Rattle.cad_extents.specs.declared.cells.CellExtent.TheVariants as cells
 use Rattle.cad_extents.specs.declared.extent.Extent.{Extent}
@@ -50,14 +52,14 @@ HoldsCells cells.Empty (Some own) = ⊥
 HoldsCells (cells.Within covered) (Some own) = IsCovered covered own
 HoldsCells cells.Any (Some own) = Unit {0}
 
--- the value is one of those, and so is the shape that it may be
+-- the value is one of those, its place is marked, and the shape that it may be is one of those
 abbrev pub Holds : Extent → Datum → Type 0
-Holds e d = (holds_value e.values d ≡ true) × HoldsCells e.cells (block_in d)
+Holds e d = (holds_value e.values d ≡ true) × IsNoted e.noted d × HoldsCells e.cells (block_in d)
 
 -- ---- of all properties
 
 abbrev pub any : Extent
-any = record { values = values.Any; cells = cells.Any }
+any = record { values = values.Any; noted = noted.Any; cells = cells.Any }
 
 -- the extent of the property at a place; past the last property any value is allowed
 abbrev pub extent_at : List Extent → ℕ → Extent

@@ -1,3 +1,4 @@
 pub mod Extents
+pub mod Places
 pub mod Squares
 pub mod inner

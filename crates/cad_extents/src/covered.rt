@@ -7,7 +7,7 @@ ghost use Rattle.cad_grid.specs.Near.{is_candidate};
 ghost use Rattle.cad_extents.specs.Extents.{IsCovered, is_inside};
 
 use crate::marks::Marks;
-use crate::squares::{has_some, mark};
+use crate::squares::{WORDS, has_some, mark};
 use cad_grid::Cells;
 use std::alloc::{AllocError, Global};
 
@@ -15,7 +15,7 @@ use std::alloc::{AllocError, Global};
 #[derive(Debug, Drop)]
 pub(crate) struct Covered {
     block: Cells,
-    marks: Marks,
+    marks: Marks<WORDS>,
 }
 
 /// The least block of cells that contains both.

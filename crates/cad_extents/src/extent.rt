@@ -10,21 +10,24 @@ ghost use Rattle.cad_feature.specs.Values.{Datum, datum_of};
 ghost use Rattle.cad_range.specs.Ranges.{lies_between};
 
 use crate::cells::CellExtent;
+use crate::noted::NotedValues;
 use crate::values::ValueExtent;
 use cad_feature::{Feature, Range, Value};
 use cad_grid::Cells;
 use std::alloc::{AllocError, Global};
 
-/// Between which values those of a property lie, and which cells its shapes touch.
+/// Between which values those of a property lie, which of them may be there, and which cells its shapes touch.
 #[derive(Debug, Drop)]
 pub(crate) struct Extent {
     values: ValueExtent,
+    noted: NotedValues,
     cells: CellExtent,
 }
 
 /// The extent of a property for which no feature has a value.
 pub(crate) const EMPTY: Extent = Extent {
     values: ValueExtent::Empty,
+    noted: NotedValues::Empty,
     cells: CellExtent::Empty,
 };
 
@@ -34,9 +37,11 @@ impl Extent {
         ensures own { IfOk result (λ all. (d : Datum) → Holds self d → Holds all d) }
         ensures more { IfOk result (λ all. Holds all (datum_of value.now)) }
     {
+        let noted = self.noted.with(alloc, value)?;
         let cells = self.cells.with(alloc, value)?;
         Ok(Extent {
             values: self.values.with(value),
+            noted,
             cells,
         })
     }
@@ -48,6 +53,7 @@ impl Extent {
         let cells = self.cells.copy(alloc)?;
         Ok(Extent {
             values: self.values,
+            noted: self.noted.share(),
             cells,
         })
     }
@@ -75,7 +81,7 @@ impl Extent {
     pub(crate) fn may_lie_in(&self, range: &Range) -> bool
         ensures { result ≡ false → (d : Datum) → Holds self.now d → lies_between (limit_of range.now.low) (limit_of range.now.high) d ≡ false }
     {
-        self.values.may_lie_in(range)
+        self.values.may_lie_in(range) && self.noted.may_lie_in(range)
     }
 
     /// Whether such a shape may be near the cells.

@@ -1,10 +1,11 @@
 //! Between which values those of some features lie, property by property.
 //!
-//! - [`Extents`]: of each property, between which whole numbers its values lie, and which squares of eight by eight cells its shapes may
-//!   touch; no feature has a value outside of them.
+//! - [`Extents`]: of each property, between which whole numbers its values lie, which numbers and texts may be among them, and which
+//!   squares of eight by eight cells its shapes may touch; no feature has a value outside of them.
 //!
 //! Of the parcels 3 and 7, only 3 has an area, 390. So no feature has an `object` from 8 to 9, an `area` above 390, or a shape that
-//! touches no square that a shape of either touches. The extents do not say whether a feature has the `object` 5.
+//! touches no square that a shape of either touches. None has the `object` 5: its place among 65,536 is not marked. The extents do not say
+//! whether a feature has a `label` between two given ones.
 #![tactic(auto)]
 
 mod cells;
@@ -12,6 +13,8 @@ mod covered;
 mod extent;
 mod extents;
 mod marks;
+mod noted;
+mod places;
 mod squares;
 mod values;
 

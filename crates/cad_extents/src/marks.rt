@@ -1,15 +1,15 @@
 //! Marks of places.
 
-ghost use Rattle.std.specs.Prelude.{◌≡◌, ◌≢◌, ℕ, ◌<◌, ◌↔◌, ◌/◌, ◌%◌, IfOk, IsTrue, length};
+ghost use Rattle.std.specs.Prelude.{◌≡◌, ◌≢◌, ℕ, ◌<◌, ◌↔◌, ◌/◌, ◌%◌, ◌*◌, IfOk, IsTrue, length};
 ghost use Rattle.std.specs.Int.{bit_at};
 
 use std::alloc::{AllocError, Global};
 
-/// Which of 4,096 places are marked, one bit for each.
+/// Which of 64 places for each word are marked, one bit for each.
 #[derive(Debug, Drop)]
-pub(crate) struct Marks {
+pub(crate) struct Marks<const WORDS: usize> {
     words: Vec<u64>,
-    ghost all: { length words.items ≡ 64 },
+    ghost all: { length words.items ≡ WORDS },
 }
 
 /// The word with the bit set.
@@ -29,18 +29,18 @@ fn has_bit(word: u64, bit: u32) -> bool
     word & (1 << bit) != 0
 }
 
-impl Marks {
-    ghost use Rattle.std.specs.Prelude.{◌≡◌, ℕ, ◌<◌, ◌↔◌, IfOk, IsTrue};
+impl<const WORDS: usize> Marks<WORDS> {
+    ghost use Rattle.std.specs.Prelude.{◌≡◌, ℕ, ◌<◌, ◌*◌, ◌↔◌, IfOk, IsTrue};
     ghost use Rattle.cad_extents.specs.Squares.{IsMarked};
 
     /// No marks. An error means out of memory.
-    pub(crate) fn none(alloc: Global) -> Result<Marks, AllocError> {
-        let words = vec![in alloc; 0; 64]?;
+    pub(crate) fn none(alloc: Global) -> Result<Marks<WORDS>, AllocError> {
+        let words = vec![in alloc; 0; WORDS]?;
         Ok(Marks { words })
     }
 
     /// The same marks in memory of their own. An error means out of memory.
-    pub(crate) fn copy(&self, alloc: Global) -> Result<Marks, AllocError>
+    pub(crate) fn copy(&self, alloc: Global) -> Result<Marks<WORDS>, AllocError>
         ensures { IfOk result (λ marks. marks.words.items ≡ self.now.words.items) }
     {
         let words = Vec::from_slice(alloc, &self.words)?;
@@ -49,7 +49,7 @@ impl Marks {
 
     /// Marks the place.
     pub(crate) fn set(&mut self, place: u32)
-        requires { place < 4096 }
+        requires { place < 64 * WORDS }
         ensures own { (k : ℕ) → IsMarked self.old k → IsMarked self.new k }
         ensures more { IsMarked self.new place }
     {
@@ -59,7 +59,7 @@ impl Marks {
 
     /// Whether the place is marked.
     pub(crate) fn has(&self, place: u32) -> bool
-        requires { place < 4096 }
+        requires { place < 64 * WORDS }
         ensures { IsTrue result ↔ IsMarked self.now place }
     {
         has_bit(self.words[(place / 64) as usize], place % 64)

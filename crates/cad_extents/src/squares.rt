@@ -7,6 +7,9 @@ ghost use Rattle.cad_extents.specs.inner.Free.{AreFree, IsRowFree};
 use crate::marks::Marks;
 use cad_grid::Cells;
 
+/// The words of marks for all places.
+pub(crate) const WORDS: usize = 64;
+
 /// A square has this many columns and this many rows of cells.
 const CELLS: u32 = 8;
 
@@ -22,7 +25,7 @@ fn place(row: u32, column: u32) -> u32
 }
 
 /// Marks the squares of this row in the columns from first to last.
-fn mark_row(marks: &mut Marks, row: u32, first: u32, last: u32)
+fn mark_row(marks: &mut Marks<WORDS>, row: u32, first: u32, last: u32)
     requires { last ≤ 400000 }
     ensures own { (k : ℕ) → IsMarked marks.old k → IsMarked marks.new k }
     ensures more { IsRowMarked marks.new row first last }
@@ -33,7 +36,7 @@ fn mark_row(marks: &mut Marks, row: u32, first: u32, last: u32)
 }
 
 /// Whether a square of this row in the columns from first to last is marked.
-fn has_in_row(marks: &Marks, row: u32, first: u32, last: u32) -> bool
+fn has_in_row(marks: &Marks<WORDS>, row: u32, first: u32, last: u32) -> bool
     requires { last ≤ 400000 }
     ensures { result ≡ false → IsRowFree marks.now row first last }
 {
@@ -46,7 +49,7 @@ fn has_in_row(marks: &Marks, row: u32, first: u32, last: u32) -> bool
 }
 
 /// Marks the squares that have some of the cells.
-pub(crate) fn mark(marks: &mut Marks, cells: Cells)
+pub(crate) fn mark(marks: &mut Marks<WORDS>, cells: Cells)
     ensures own { (k : ℕ) → IsMarked marks.old k → IsMarked marks.new k }
     ensures more { AreMarked marks.new cells }
 {
@@ -61,7 +64,7 @@ fn are_many(cells: Cells) -> bool {
 }
 
 /// Whether a square that has some of the cells is marked. If there are very many squares, it returns true without a search.
-pub(crate) fn has_some(marks: &Marks, cells: Cells) -> bool
+pub(crate) fn has_some(marks: &Marks<WORDS>, cells: Cells) -> bool
     ensures { result ≡ false → AreFree marks.now cells }
 {
     if are_many(cells) {

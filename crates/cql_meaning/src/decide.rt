@@ -7,7 +7,7 @@ ghost use Rattle.cql_meaning.specs.Sides.{conjunction as conjunction_of, disjunc
 
 use crate::flag::{compare_flags, flag, in_flags};
 use crate::shape::{shape, spatial};
-use crate::text::{compare_texts, in_texts, like_texts, text};
+use crate::text::{compare_terms, in_texts, like_terms, text};
 use crate::time::{compare_days, day, in_days, span, temporal};
 use crate::verdict::{Truth, and, negation, or, truth_of};
 use crate::whole::{between, compare_wholes, in_wholes, whole};
@@ -42,8 +42,7 @@ pub fn truth(alloc: Global, filter: &Filter, feature: &Feature) -> Result<Truth,
             Ok(compare_wholes(*by, whole(left, feature), whole(right, feature)))
         }
         Filter::CompareText { by, left, right } => {
-            let left = text(alloc, left, feature)?;
-            Ok(compare_texts(*by, &left, &text(alloc, right, feature)?))
+            compare_terms(alloc, *by, left, right, feature)
         }
         Filter::CompareDay { by, left, right } => {
             Ok(compare_days(*by, day(left, feature), day(right, feature)))
@@ -51,10 +50,7 @@ pub fn truth(alloc: Global, filter: &Filter, feature: &Feature) -> Result<Truth,
         Filter::CompareFlag { by, left, right } => {
             Ok(compare_flags(*by, flag(left, feature), flag(right, feature)))
         }
-        Filter::Like { value, pattern } => {
-            let value = text(alloc, value, feature)?;
-            Ok(like_texts(&value, &text(alloc, pattern, feature)?))
-        }
+        Filter::Like { value, pattern } => like_terms(alloc, value, pattern, feature),
         Filter::Between { value, low, high } => {
             Ok(between(
                 whole(value, feature),

@@ -1,6 +1,6 @@
 //! Texts.
 
-ghost use Rattle.std.specs.Prelude.{◌≡◌, false, IfOk, IsOk};
+ghost use Rattle.std.specs.Prelude.{◌≡◌, false, chars, IfOk, IsOk, Some};
 ghost use Rattle.std.specs.List.{list_any};
 ghost use Rattle.cad_feature.specs.Features.{datum_at};
 ghost use Rattle.cad_feature.specs.Values.{datum_of};
@@ -15,7 +15,7 @@ use crate::comparison::stands;
 use crate::verdict::{Truth, or, truth_of};
 use cad_feature::{Feature, Value};
 use cql_lexer::Comparison;
-use cql_text::{compare, fold, like};
+use cql_text::{compare, compare_folded, fold, like, like_folded};
 use cql_types::TextTerm;
 use std::alloc::{AllocError, Global};
 use std::borrow::CowStr;
@@ -70,12 +70,83 @@ pub(crate) fn compare_texts(by: Comparison, left: &Option<CowStr>, right: &Optio
     }
 }
 
+// What a comparison says of the text with its case folded, and of a constant.
+fn compare_folded_text(by: Comparison, text: &Option<CowStr>, constant: &str) -> Truth
+    ensures { said result ≡ compared (texts by) (folded_content (content text.now)) (Some (chars constant.now)) }
+{
+    match text {
+        Some(text) => truth_of(Some(stands(by, compare_folded(text.as_str(), constant)))),
+        None => Truth::Unknown,
+    }
+}
+
+/// What a comparison says of two terms on a feature. A text that is folded for a constant is folded as far as they are alike, and takes no
+/// memory. An error means out of memory.
+pub(crate) fn compare_terms(
+    alloc: Global,
+    by: Comparison,
+    left: &TextTerm,
+    right: &TextTerm,
+    feature: &Feature,
+) -> Result<Truth, AllocError>
+    ensures said { IfOk result (λ t. said t ≡ compared (texts by) (text_value feature.now left.now) (text_value feature.now right.now)) }
+    ensures lent { folds_text left.now ≡ false → folds_text right.now ≡ false → IsOk result }
+{
+    match (left, right) {
+        (TextTerm::Folded(term), TextTerm::Constant(constant)) => {
+            let term = text(alloc, term, feature)?;
+            Ok(compare_folded_text(by, &term, constant.as_str()))
+        }
+        _ => {
+            let left = text(alloc, left, feature)?;
+            Ok(compare_texts(by, &left, &text(alloc, right, feature)?))
+        }
+    }
+}
+
 pub(crate) fn like_texts(text: &Option<CowStr>, pattern: &Option<CowStr>) -> Truth
     ensures { said result ≡ compared is_like (content text.now) (content pattern.now) }
 {
     match (text, pattern) {
         (Some(text), Some(pattern)) => truth_of(Some(like(text.as_str(), pattern.as_str()))),
         (None, _) | (_, None) => Truth::Unknown,
+    }
+}
+
+// Whether the text with its case folded is like the pattern.
+fn like_folded_text(
+    alloc: Global,
+    text: &Option<CowStr>,
+    pattern: &str,
+) -> Result<Truth, AllocError>
+    ensures { IfOk result (λ t. said t ≡ compared is_like (folded_content (content text.now)) (Some (chars pattern.now))) }
+{
+    match text {
+        Some(text) => Ok(truth_of(Some(like_folded(alloc, text.as_str(), pattern)?))),
+        None => Ok(Truth::Unknown),
+    }
+}
+
+/// What LIKE says of two terms on a feature. If the text is folded for a constant pattern, it may be enough to fold its first character. An
+/// error means out of memory.
+pub(crate) fn like_terms(
+    alloc: Global,
+    value: &TextTerm,
+    pattern: &TextTerm,
+    feature: &Feature,
+) -> Result<Truth, AllocError>
+    ensures said { IfOk result (λ t. said t ≡ compared is_like (text_value feature.now value.now) (text_value feature.now pattern.now)) }
+    ensures lent { folds_text value.now ≡ false → folds_text pattern.now ≡ false → IsOk result }
+{
+    match (value, pattern) {
+        (TextTerm::Folded(term), TextTerm::Constant(pattern)) => {
+            let term = text(alloc, term, feature)?;
+            like_folded_text(alloc, &term, pattern.as_str())
+        }
+        _ => {
+            let value = text(alloc, value, feature)?;
+            Ok(like_texts(&value, &text(alloc, pattern, feature)?))
+        }
     }
 }
 

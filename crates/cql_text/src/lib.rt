@@ -1,8 +1,10 @@
 //! Texts as the filter language sees them: as lists of code points.
 //!
 //! - [`like`]: whether a text is like a pattern. `C%1` is like `C\%_`, and `CC1` is not.
+//! - [`like_folded`]: the same of a text with its case folded
 //! - [`fold`]: a text with its case folded: `Straße` and `STRASSE` both become `strasse`.
 //! - [`compare`]: the order of texts, by code points.
+//! - [`compare_folded`]: the same of a text with its case folded, without memory for it.
 //! - [`like_range`]: the range of the texts that begin with a pattern's front
 //! - [`laws`]: what holds of patterns, folding and the order, beyond what each call says.
 #![tactic(auto)]
@@ -15,5 +17,5 @@ mod pattern;
 
 pub use folding::fold;
 pub use front::{LikeRange, like_range};
-pub use order::compare;
-pub use pattern::like;
+pub use order::{compare, compare_folded};
+pub use pattern::{like, like_folded};

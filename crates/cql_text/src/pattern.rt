@@ -1,9 +1,14 @@
 //! LIKE, in one walk that remembers one place to return to.
 
-ghost use Rattle.std.specs.Prelude.{◌≡◌, ◌↔◌, ◌∷◌, [], chars, MatchOption, IsTrue};
+ghost use Rattle.std.specs.Prelude.{◌≡◌, ◌↔◌, ◌∷◌, ℕ, List, [], true, false, chars, IfOk, MatchOption, IsTrue};
+ghost use Rattle.caseless.specs.Caseless.{default_case_fold};
 ghost use Rattle.cql_text.specs.Patterns.{Advances, BeginsPlain, Stops, any, is_like, like_test, pieces, piece_takes, some_end};
 ghost use Rattle.cql_text.specs.Likeness.{IsLike};
 ghost use Rattle.cql_text.specs.inner.Parts.{piece_of};
+
+use crate::folding::fold;
+use caseless::Caseless;
+use std::alloc::{AllocError, Global};
 
 // One part of a pattern: it matches any number of characters, any one, or exactly that one.
 #[derive(Clone, Copy)]
@@ -21,6 +26,37 @@ pub fn like(text: &str, pattern: &str) -> bool
     ensures test { result ≡ like_test (chars pattern.now) (chars text.now) }
 {
     is_whole_like(text, pattern)
+}
+
+/// Whether the text with its case folded is like the pattern. A text that begins with another character than the pattern is not folded as a
+/// whole. An error means out of memory.
+pub fn like_folded(alloc: Global, text: &str, pattern: &str) -> Result<bool, AllocError>
+    ensures { IfOk result (λ b. b ≡ like_test (chars pattern.now) (default_case_fold (chars text.now))) }
+{
+    if begins_otherwise(text, pattern) {
+        return Ok(false);
+    }
+    let folded = fold(alloc, text)?;
+    Ok(like(folded.as_str(), pattern))
+}
+
+// Whether the pattern begins with a character, and the folded text with none or with another one.
+fn begins_otherwise(text: &str, pattern: &str) -> bool
+    ensures { result ≡ true → like_test (chars pattern.now) (default_case_fold (chars text.now)) ≡ false }
+{
+    match (first_part(pattern), first_folded(text)) {
+        (Some((Part::Exactly(first), _)), Some(own)) => own != first,
+        (Some((Part::Exactly(_), _)), None) => true,
+        _ => false,
+    }
+}
+
+// The first character of the folded text.
+fn first_folded(text: &str) -> Option<char>
+    ensures { MatchOption result (default_case_fold (chars text.now) ≡ []) (λ c. (rest : List ℕ) × (default_case_fold (chars text.now) ≡ c ∷ rest)) }
+{
+    let mut all = text.chars().default_case_fold();
+    all.next()
 }
 
 // Up to the first part that matches any number, each part takes one character.

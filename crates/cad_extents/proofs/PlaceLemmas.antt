@@ -1,0 +1,70 @@
+-- Ranges of values of which no place is marked.
+use Rattle.std.proofs.Common.{◌≡◌, ℕ, ◌+◌, ℤ, pos, ◌+ℤ◌, ◌≤ℤ◌, ◌<ℤ◌, Bool, true, false, List, refl, subst, arith}
+use Rattle.std.specs.Prelude.{not, ◌&&◌, int_lt}
+use Rattle.std.specs.declared.cmp.Ordering.{Ordering}
+use Rattle.std.specs.declared.cmp.Ordering.TheVariants as ordering
+use Rattle.std.specs.Ordering.{int_cmp, nat_cmp, is_lt, is_gt}
+use Rattle.std.specs.Cmp.Lexicographic.{slice_cmp}
+use Rattle.std.proofs.lemmas.Bool.{and_parts}
+use Rattle.std.proofs.lemmas.Int.{ints}
+use Rattle.std.proofs.lemmas.Map.Lookups.{exact_bytes}
+use Rattle.cad_feature.specs.Limits.{with_value}
+use Rattle.cad_feature.specs.Values.{Datum, null, a_text, a_whole, a_flag, a_day, a_span, a_spot, an_area}
+use Rattle.cad_range.specs.Ranges.{lies_between}
+use Rattle.cad_extents.specs.Places.{IsMarkedIfAny, place_of, place_of_text, place_of_whole}
+use Rattle.cad_extents.specs.Squares.{IsMarked}
+use Rattle.cad_extents.specs.declared.marks.Marks.{Marks}
+
+not_below : (n low : ℤ) → not (is_lt (int_cmp n low)) ≡ true → low ≤ℤ n
+not_below n low h = grind (arith, ints)
+
+not_above : (n high : ℤ) → not (is_gt (int_cmp n high)) ≡ true → n ≤ℤ high
+not_above n high h = grind (arith, ints)
+
+-- numbers below the next one are those below this one, and this one
+pub one_more : (marks : Marks 1024) (low : ℤ) (offset : ℕ) (number : ℤ) → number ≡ (low +ℤ pos offset) → (IsMarked marks (place_of_whole number) → ⊥)
+    → ((n : ℤ) → low ≤ℤ n → n <ℤ (low +ℤ pos offset) → IsMarked marks (place_of_whole n) → ⊥)
+    → (n : ℤ) → low ≤ℤ n → n <ℤ (low +ℤ pos (offset + 1)) → IsMarked marks (place_of_whole n) → ⊥
+one_more marks low offset number is free before n above below marked = go (int_lt n number) refl
+  where
+    go : (b : Bool) → int_lt n number ≡ b → ⊥
+    go true e = before n above (grind (arith, ints)) marked
+    go false e = free (subst (λ m. IsMarked marks (place_of_whole m)) (same e) marked)
+      where
+        same : int_lt n number ≡ false → n ≡ number
+        same e = grind (arith, ints)
+
+-- if no number from one to another is marked, no marked value lies there
+pub no_whole : (marks : Marks 1024) (low high : ℤ) → ((n : ℤ) → low ≤ℤ n → n ≤ℤ high → IsMarked marks (place_of_whole n) → ⊥)
+    → (d : Datum) → IsMarkedIfAny marks (place_of d) → lies_between (with_value (a_whole low)) (with_value (a_whole high)) d ≡ false
+no_whole marks low high free null m = refl
+no_whole marks low high free (a_text t) m = refl
+no_whole marks low high free (a_flag b) m = refl
+no_whole marks low high free (a_day day) m = refl
+no_whole marks low high free (a_span days) m = refl
+no_whole marks low high free (a_spot p) m = refl
+no_whole marks low high free (an_area r) m = refl
+no_whole marks low high free (a_whole n) m = go (not (is_lt (int_cmp n low)) && not (is_gt (int_cmp n high))) refl
+  where
+    go : (b : Bool) → (not (is_lt (int_cmp n low)) && not (is_gt (int_cmp n high))) ≡ b → b ≡ false
+    go false e = refl
+    go true e =
+        let both = and_parts _ _ e in
+        absurd (free n (not_below n low both.0) (not_above n high both.1) m)
+
+-- if a text is not marked, no marked value lies from it to itself
+pub no_text : (marks : Marks 1024) (s : List ℕ) → (IsMarked marks (place_of_text s) → ⊥)
+    → (d : Datum) → IsMarkedIfAny marks (place_of d) → lies_between (with_value (a_text s)) (with_value (a_text s)) d ≡ false
+no_text marks s free null m = refl
+no_text marks s free (a_whole n) m = refl
+no_text marks s free (a_flag b) m = refl
+no_text marks s free (a_day day) m = refl
+no_text marks s free (a_span days) m = refl
+no_text marks s free (a_spot p) m = refl
+no_text marks s free (an_area r) m = refl
+no_text marks s free (a_text t) m = go (slice_cmp nat_cmp t s) refl
+  where
+    go : (o : Ordering) → slice_cmp nat_cmp t s ≡ o → (not (is_lt o) && not (is_gt o)) ≡ false
+    go ordering.Less e = refl
+    go ordering.Greater e = refl
+    go ordering.Equal e = absurd (free (subst (λ u. IsMarked marks (place_of_text u)) (exact_bytes t s e) m))
