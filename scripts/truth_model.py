@@ -246,6 +246,37 @@ def answer(collection, text):
     return " ".join(words)
 
 
+def hash_of(text):
+    """The hash of a text: a number below 4,294,967,291."""
+    at = 0
+    for character in text:
+        at = (at * 16_777_619 + ord(character)) % 4_294_967_291
+    return at
+
+
+def marks(property_, text):
+    """The two marks of a folded text of the property at that place of the schema, as bits."""
+    at = hash_of(text)
+    return 1 << (at % 64 + property_ * 23) % 64 | 1 << (at // 64 % 64 + property_ * 41) % 64
+
+
+def may_fold(path, text):
+    """The features of which the marks do not exclude that this text is their value, with its case folded."""
+    collection, _, name = path.partition("/")
+    names = list(filter_model.SCHEMAS.get(collection, ()))
+    if name not in names:
+        return "no property"
+    asked, found = marks(names.index(name), text), ["may"]
+    for x in FEATURES.get(collection, []):
+        own = 0
+        for property_, its_name in enumerate(names):
+            if isinstance(x[its_name], str):
+                own |= marks(property_, x[its_name].casefold())
+        if own & asked == asked:
+            found.append(f"{x['object']}.{x['number']}")
+    return " ".join(found)
+
+
 def main():
     for line in sys.stdin.buffer.read().split(b"\n"):
         if not line or line.startswith(b"#"):
@@ -255,6 +286,9 @@ def main():
             text, pattern = rest.decode().split("|", 1)
             order = "less" if text < pattern else "equal" if text == pattern else "greater"
             print("like" if like(text, pattern) else "unlike", order, text.casefold())
+        elif name == b"folds":
+            path, _, text = rest.decode().partition(" ")
+            print(may_fold(path, text))
         else:
             print(answer(name.decode(), rest))
 

@@ -16,8 +16,8 @@ PLANE = (-EDGE, -EDGE, EDGE, EDGE)
 SQUARE, FIRST_CELL = 8, -1_525_879
 # Squares this many columns or rows apart share a mark. A box that reaches over more is compared with the block alone.
 MARKS = 64
-# Numbers have as many places as marks. A text has the place that its characters give as digits, by this base and this modulus.
-WHOLES, FACTOR, TEXTS = 65_536, 257, 65_521
+# A number, or the characters of a text one after the other, are multiplied by this, by this modulus: the hash. It gives two places.
+PLACES, FACTOR, MODULUS = 65_536, 16_777_619, 4_294_967_291
 # Numbers are looked up if they are fewer than this, and none of them is the greatest of 64 bits.
 MOST_NUMBERS = 64
 # Days have no place.
@@ -96,14 +96,15 @@ def may_be_near(shapes, asked):
     return reaches_far(asked) or any(marks(shape) & marks(asked) for shape in shapes)
 
 
-def place(value):
-    """The mark of a number or of a text."""
+def places(value):
+    """The two marks of a number or of a text."""
     if isinstance(value, int):
-        return value % WHOLES
-    at = 0
-    for character in value:
-        at = (at * FACTOR + ord(character)) % TEXTS
-    return at
+        at = value * FACTOR % MODULUS
+    else:
+        at = 0
+        for character in value:
+            at = (at * FACTOR + ord(character)) % MODULUS
+    return {at % PLACES, at // PLACES}
 
 
 def looked_up(low, high):
@@ -117,10 +118,10 @@ def looked_up(low, high):
 
 
 def may_be_noted(values, low, high):
-    """Whether one of the values between the ends has the mark of one that is there, or their marks are not looked up."""
+    """Whether one of the values between the ends has marks of those that are there, or their marks are not looked up."""
     asked = looked_up(low, high)
-    marked = {place(value) for value in values}
-    return asked is None or any(place(value) in marked for value in asked)
+    marked = {mark for value in values for mark in places(value)}
+    return asked is None or any(places(value) <= marked for value in asked)
 
 
 def reaches_values(values, low, high):
@@ -311,6 +312,10 @@ def noted_values():
         yield range_case("area", [5, None, 7], *same(number))
     for number in [0, 3, 65_535, 65_536, 65_538, 65_539, 65_540, 131_075, 200_000, 4_294_967_295]:
         yield range_case("area", [3, 200_000], *same(number))
+    # numbers with places of 3 and of the other one, and one with the hash of 3
+    for number in [4, 265_966_351, 951_206_339, 1_229_869_469, 1_633_888_434, 1_899_854_782, 4_294_967_294]:
+        yield range_case("area", [3, 4_294_967_295], *same(number))
+        yield range_case("area", [2, None, 4_294_967_295], *same(number))
     yield range_case("area", [3, 60_000], *same(65_539))
     yield range_case("area", [65_535, 4_294_967_295], *same(131_071))
     yield range_case("area", [0, 4_294_967_295], *same(131_072))
@@ -327,10 +332,11 @@ def noted_values():
         yield range_case("area", [5, 7], *same(number))
     for label in ["a", "b", "c", "A", "ab", "ba", "\u00e9", "\U0010ffff"]:
         yield range_case("label", ["a", "b", "ab"], *same(label))
-    # labels with one place
-    for label in ["ba", "a\u0162", "ab", "b", "\u62c3"]:
+    # a label with the hash of "ba", and three with places of "ba" or of "z"
+    for label in ["ba", "ea\U000cb051", "vy\U00076882", "ea\U000c77aa", "vy\U00072fdb", "ab", "b"]:
         yield range_case("label", ["ba", "z"], *same(label))
-        yield range_case("label", ["a\u0162", "z"], *same(label))
+        yield range_case("label", ["ba"], *same(label))
+        yield range_case("label", ["ea\U000cb051", "z"], *same(label))
     # two labels with others between them, or with none
     for low, high in [("a", "b"), ("b", "a"), ("c", "d")]:
         yield range_case("label", ["a", "b"], ("with", low), ("with", high))

@@ -14,7 +14,7 @@ use crate::edits::{NewValues, edited};
 use crate::reading::{first_of, last_of};
 use cad_day::Day;
 use cad_feature::{Feature, Value, flatten};
-use cad_layer::{Layer, copy_value};
+use cad_layer::Layer;
 use cad_schema::Collection;
 use cad_versions::{Body, Command, MOST_NUMBER, ObjectId, Version};
 use std::alloc::{AllocError, Global};
@@ -69,7 +69,7 @@ fn name_in(alloc: Global, feature: &Feature) -> Result<Value, AllocError>
 {
     match feature.value(NAME) {
         None => Ok(Value::Null),
-        Some(name) => copy_value(alloc, name),
+        Some(name) => name.copy(alloc),
     }
 }
 

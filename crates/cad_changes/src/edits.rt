@@ -11,7 +11,6 @@ ghost use Rattle.cad_changes.specs.Touching.{edited_datum, edited_data, span_to}
 use crate::reading::first_of;
 use cad_day::{Day, Interval};
 use cad_feature::{Feature, Value};
-use cad_layer::copy_value;
 use cad_schema::{Attribute, Collection, Property, schema};
 use std::alloc::{AllocError, Global};
 
@@ -44,8 +43,8 @@ fn or_old(alloc: Global, new: Option<&Value>, old: &Value) -> Result<Value, Allo
     ensures { IfOk result (λ value. datum_of value ≡ spec.or_old (option_map datum_of (option_copied new.entry)) (datum_of old.now)) }
 {
     match new {
-        None => copy_value(alloc, old),
-        Some(new) => copy_value(alloc, new),
+        None => old.copy(alloc),
+        Some(new) => new.copy(alloc),
     }
 }
 
@@ -61,16 +60,16 @@ fn edited_value(
 {
     match attribute {
         Attribute::End => match new.closing {
-            None => copy_value(alloc, old),
+            None => old.copy(alloc),
             Some(last) => Ok(Value::Day(last)),
         },
         Attribute::Lifespan => match new.closing {
-            None => copy_value(alloc, old),
+            None => old.copy(alloc),
             Some(last) => lifespan(alloc, first, last),
         },
         Attribute::UnitName => or_old(alloc, new.unit_name, old),
         Attribute::PartyName => or_old(alloc, new.party_name, old),
-        _ => copy_value(alloc, old),
+        _ => old.copy(alloc),
     }
 }
 
@@ -121,10 +120,5 @@ pub(crate) fn edited(
 {
     let first = first_of(feature);
     let values = edited_values(alloc, new, first, schema(collection), &feature.values)?;
-    Ok(Feature {
-        object: feature.object,
-        number: feature.number,
-        values,
-        period: feature.period,
-    })
+    Ok(Feature::new(feature.object, feature.number, values, feature.period))
 }

@@ -1,6 +1,5 @@
 -- Cells of which each square is marked, and cells of which no square is.
-use Rattle.std.proofs.Common.{◌≡◌, ℕ, ◌/◌, ◌%◌, ◌≤◌, Bool, true, false, Some, get_or, refl, sym, subst, max, arith}
-use Rattle.std.specs.Int.{bit_at}
+use Rattle.std.proofs.Common.{◌≡◌, ℕ, ◌/◌, ◌≤◌, Bool, true, false, Some, refl, subst, max, arith}
 use Rattle.std.specs.Prelude.{int_le, not, ◌||◌}
 use Rattle.std.proofs.lemmas.Bool.{and_parts, false≢true}
 use Rattle.std.proofs.lemmas.Int.{ints}
@@ -8,11 +7,11 @@ use Rattle.cad_grid.specs.declared.cells.Cells.{Cells}
 use Rattle.cad_grid.specs.Blocks.{Block, is_wide, share_a_cell}
 use Rattle.cad_grid.specs.Counted.{block_at, from_origin}
 use Rattle.cad_grid.specs.Near.{is_candidate}
-use Rattle.cad_extents.specs.declared.marks.Marks.{Marks}
+use Rattle.cad_marks.specs.Marked.{IsMarked}
+use Rattle.cad_marks.specs.declared.marks.Marks.{Marks}
 use Rattle.cad_extents.specs.declared.covered.Covered.{Covered}
 use Rattle.cad_extents.specs.Extents.{IsCovered}
-use Rattle.cad_extents.specs.Squares.{AreMarked, place_at}
-use Rattle.cad_extents.specs.inner.Free.{AreFree}
+use Rattle.cad_grid.specs.Squares.{AreFree, AreMarked, place_at}
 
 -- two ranges of numbers that share one share the row or column of squares of the greater of their first numbers
 within : (a b c d : ℕ) → a ≤ b → c ≤ d → int_le (from_origin a) (from_origin d) ≡ true → int_le (from_origin c) (from_origin b) ≡ true
@@ -47,6 +46,6 @@ not_shared covered asked free own held =
     go true e a = absurd (false≢true e)
     go false e a = a
 
--- with the same marks, the same shapes are covered
-pub copy_covers : (covered : Covered) (marks : Marks 64) → marks.words.items ≡ covered.marks.words.items → (b : Block) → IsCovered covered b → IsCovered (record covered { marks = marks }) b
-copy_covers covered marks same b held = (held.0, (held.1.0, held.1.1, λ row low high column left right. subst (λ ws. bit_at (get_or ws (place_at row column / 64) 0) (place_at row column % 64) ≡ 1) (sym same) (held.1.2 row low high column left right)))
+-- with the same marks and more, the same shapes are covered
+pub copy_covers : (covered : Covered) (marks : Marks 64) → ((k : ℕ) → IsMarked covered.marks k → IsMarked marks k) → (b : Block) → IsCovered covered b → IsCovered (record covered { marks = marks }) b
+copy_covers covered marks same b held = (held.0, (held.1.0, held.1.1, λ row low high column left right. same (place_at row column) (held.1.2 row low high column left right)))

@@ -11,9 +11,8 @@ use Rattle.std.proofs.lemmas.Map.Lookups.{exact_bytes}
 use Rattle.cad_feature.specs.Limits.{with_value}
 use Rattle.cad_feature.specs.Values.{Datum, null, a_text, a_whole, a_flag, a_day, a_span, a_spot, an_area}
 use Rattle.cad_range.specs.Ranges.{lies_between}
-use Rattle.cad_extents.specs.Places.{IsMarkedIfAny, place_of, place_of_text, place_of_whole}
-use Rattle.cad_extents.specs.Squares.{IsMarked}
-use Rattle.cad_extents.specs.declared.marks.Marks.{Marks}
+use Rattle.cad_extents.specs.Places.{AreMarkedAt, AreMarkedIfAny, places_of, places_of_text, places_of_whole}
+use Rattle.cad_marks.specs.declared.marks.Marks.{Marks}
 
 not_below : (n low : ℤ) → not (is_lt (int_cmp n low)) ≡ true → low ≤ℤ n
 not_below n low h = grind (arith, ints)
@@ -22,21 +21,21 @@ not_above : (n high : ℤ) → not (is_gt (int_cmp n high)) ≡ true → n ≤�
 not_above n high h = grind (arith, ints)
 
 -- numbers below the next one are those below this one, and this one
-pub one_more : (marks : Marks 1024) (low : ℤ) (offset : ℕ) (number : ℤ) → number ≡ (low +ℤ pos offset) → (IsMarked marks (place_of_whole number) → ⊥)
-    → ((n : ℤ) → low ≤ℤ n → n <ℤ (low +ℤ pos offset) → IsMarked marks (place_of_whole n) → ⊥)
-    → (n : ℤ) → low ≤ℤ n → n <ℤ (low +ℤ pos (offset + 1)) → IsMarked marks (place_of_whole n) → ⊥
+pub one_more : (marks : Marks 1024) (low : ℤ) (offset : ℕ) (number : ℤ) → number ≡ (low +ℤ pos offset) → (AreMarkedAt marks (places_of_whole number) → ⊥)
+    → ((n : ℤ) → low ≤ℤ n → n <ℤ (low +ℤ pos offset) → AreMarkedAt marks (places_of_whole n) → ⊥)
+    → (n : ℤ) → low ≤ℤ n → n <ℤ (low +ℤ pos (offset + 1)) → AreMarkedAt marks (places_of_whole n) → ⊥
 one_more marks low offset number is free before n above below marked = go (int_lt n number) refl
   where
     go : (b : Bool) → int_lt n number ≡ b → ⊥
     go true e = before n above (grind (arith, ints)) marked
-    go false e = free (subst (λ m. IsMarked marks (place_of_whole m)) (same e) marked)
+    go false e = free (subst (λ m. AreMarkedAt marks (places_of_whole m)) (same e) marked)
       where
         same : int_lt n number ≡ false → n ≡ number
         same e = grind (arith, ints)
 
 -- if no number from one to another is marked, no marked value lies there
-pub no_whole : (marks : Marks 1024) (low high : ℤ) → ((n : ℤ) → low ≤ℤ n → n ≤ℤ high → IsMarked marks (place_of_whole n) → ⊥)
-    → (d : Datum) → IsMarkedIfAny marks (place_of d) → lies_between (with_value (a_whole low)) (with_value (a_whole high)) d ≡ false
+pub no_whole : (marks : Marks 1024) (low high : ℤ) → ((n : ℤ) → low ≤ℤ n → n ≤ℤ high → AreMarkedAt marks (places_of_whole n) → ⊥)
+    → (d : Datum) → AreMarkedIfAny marks (places_of d) → lies_between (with_value (a_whole low)) (with_value (a_whole high)) d ≡ false
 no_whole marks low high free null m = refl
 no_whole marks low high free (a_text t) m = refl
 no_whole marks low high free (a_flag b) m = refl
@@ -53,8 +52,8 @@ no_whole marks low high free (a_whole n) m = go (not (is_lt (int_cmp n low)) && 
         absurd (free n (not_below n low both.0) (not_above n high both.1) m)
 
 -- if a text is not marked, no marked value lies from it to itself
-pub no_text : (marks : Marks 1024) (s : List ℕ) → (IsMarked marks (place_of_text s) → ⊥)
-    → (d : Datum) → IsMarkedIfAny marks (place_of d) → lies_between (with_value (a_text s)) (with_value (a_text s)) d ≡ false
+pub no_text : (marks : Marks 1024) (s : List ℕ) → (AreMarkedAt marks (places_of_text s) → ⊥)
+    → (d : Datum) → AreMarkedIfAny marks (places_of d) → lies_between (with_value (a_text s)) (with_value (a_text s)) d ≡ false
 no_text marks s free null m = refl
 no_text marks s free (a_whole n) m = refl
 no_text marks s free (a_flag b) m = refl
@@ -67,4 +66,4 @@ no_text marks s free (a_text t) m = go (slice_cmp nat_cmp t s) refl
     go : (o : Ordering) → slice_cmp nat_cmp t s ≡ o → (not (is_lt o) && not (is_gt o)) ≡ false
     go ordering.Less e = refl
     go ordering.Greater e = refl
-    go ordering.Equal e = absurd (free (subst (λ u. IsMarked marks (place_of_text u)) (exact_bytes t s e) m))
+    go ordering.Equal e = absurd (free (subst (λ u. AreMarkedAt marks (places_of_text u)) (exact_bytes t s e) m))

@@ -8,7 +8,7 @@ use Rattle.cad_feature.specs.Features.{Item, datum_at}
 use Rattle.cad_feature.specs.Values.{Datum, a_whole}
 use Rattle.cad_range.specs.Ranges.{has_order}
 use Rattle.cad_extents.specs.Places.{IsNoted}
-use Rattle.cad_extents.specs.Squares.{AreMarked}
+use Rattle.cad_grid.specs.Squares.{AreMarked}
 use Rattle.cad_extents.specs.declared.covered.Covered.{Covered}
 use Rattle.cad_extents.specs.declared.values.ValueExtent.{ValueExtent}
 use Rattle.cad_extents.specs.declared.values.ValueExtent.TheVariants as values

@@ -1,4 +1,2 @@
 pub mod Extents
 pub mod Places
-pub mod Squares
-pub mod inner

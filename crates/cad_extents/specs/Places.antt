@@ -1,39 +1,55 @@
--- Places of values among marks, and values of which the places are marked (own profile). Values with one place are not told apart.
-use Rattle.std.specs.Prelude.{ℕ, ◌+◌, ◌*◌, ◌%◌, ℤ, pos, unsigned_abs, List, fold, Option, Some, None}
+-- Places of values among marks, and values of which the places are marked (own profile). Each value has two places. Values with the same places are not told apart.
+use Rattle.std.specs.Prelude.{ℕ, ℤ, pos, ◌<◌, ◌*◌, ◌/◌, ◌%◌, unsigned_abs, List, Option, Some, None}
 use Rattle.std.specs.Int.{int_rem_euclid}
 use Rattle.cad_feature.specs.Values.{Datum, a_text, a_whole}
-use Rattle.cad_extents.specs.Squares.{IsMarked}
-use Rattle.cad_extents.specs.declared.marks.Marks.{Marks}
+use Rattle.cql_text.specs.Hashes.{hash_of_text}
+use Rattle.cad_marks.specs.Marked.{IsMarked}
+use Rattle.cad_marks.specs.declared.marks.Marks.{Marks}
+use Rattle.cad_extents.specs.declared.places.Places.{Places}
 use Rattle.cad_extents.specs.declared.noted.NotedValues.{NotedValues}
 use Rattle.cad_extents.specs.declared.noted.NotedValues.TheVariants as noted
 
-abbrev pub place_of_whole : ℤ → ℕ
-place_of_whole n = unsigned_abs (int_rem_euclid n (pos 65536))
+-- by a hash
+abbrev pub places_by : ℕ → Places
+places_by hash = record { first = hash % 65536; second = hash / 65536 }
 
--- the place of a text with one more character
-abbrev pub next_place : ℕ → ℕ → ℕ
-next_place place character = (place * 257 + character) % 65521
+abbrev pub residue : ℤ → ℕ
+residue n = unsigned_abs (int_rem_euclid n (pos 4294967291))
 
-abbrev pub place_of_text : List ℕ → ℕ
-place_of_text = fold next_place 0
+abbrev pub hash_of_whole : ℤ → ℕ
+hash_of_whole n = (residue n * 16777619) % 4294967291
 
--- whole numbers and texts have a place
-abbrev pub place_of : Datum → Option ℕ
-place_of (a_whole n) = Some (place_of_whole n)
-place_of (a_text t) = Some (place_of_text t)
-place_of d = None
+abbrev pub places_of_whole : ℤ → Places
+places_of_whole n = places_by (hash_of_whole n)
 
--- if there is a place, it is marked
-abbrev pub IsMarkedIfAny : Marks 1024 → Option ℕ → Type 0
-IsMarkedIfAny m None = Unit {0}
-IsMarkedIfAny m (Some place) = IsMarked m place
+abbrev pub places_of_text : List ℕ → Places
+places_of_text t = places_by (hash_of_text t)
 
--- a value with this place is one of those; or it has none
-abbrev pub IsNotedAt : NotedValues → Option ℕ → Type 0
+-- whole numbers and texts have places
+abbrev pub places_of : Datum → Option Places
+places_of (a_whole n) = Some (places_of_whole n)
+places_of (a_text t) = Some (places_of_text t)
+places_of d = None
+
+-- the places are among the marks
+abbrev pub AreWithin : Places → Type 0
+AreWithin p = (p.first < 65536) × (p.second < 65536)
+
+-- both are marked
+abbrev pub AreMarkedAt : Marks 1024 → Places → Type 0
+AreMarkedAt m p = IsMarked m p.first × IsMarked m p.second
+
+-- if there are places, they are marked
+abbrev pub AreMarkedIfAny : Marks 1024 → Option Places → Type 0
+AreMarkedIfAny m None = Unit {0}
+AreMarkedIfAny m (Some p) = AreMarkedAt m p
+
+-- a value with these places is one of those; or it has none
+abbrev pub IsNotedAt : NotedValues → Option Places → Type 0
 IsNotedAt noted.Empty None = Unit {0}
-IsNotedAt noted.Empty (Some place) = ⊥
-IsNotedAt (noted.Marked marks) place = IsMarkedIfAny marks.value place
-IsNotedAt noted.Any place = Unit {0}
+IsNotedAt noted.Empty (Some p) = ⊥
+IsNotedAt (noted.Marked marks) p = AreMarkedIfAny marks.value p
+IsNotedAt noted.Any p = Unit {0}
 
 abbrev pub IsNoted : NotedValues → Datum → Type 0
-IsNoted values d = IsNotedAt values (place_of d)
+IsNoted values d = IsNotedAt values (places_of d)

@@ -6,16 +6,15 @@ ghost use Rattle.cad_grid.specs.Counted.{block_at};
 ghost use Rattle.cad_grid.specs.Near.{is_candidate};
 ghost use Rattle.cad_extents.specs.Extents.{IsCovered, is_inside};
 
-use crate::marks::Marks;
-use crate::squares::{WORDS, has_some, mark};
-use cad_grid::Cells;
+use cad_grid::{Cells, SQUARE_WORDS, has_marked_square, mark_squares};
+use cad_marks::Marks;
 use std::alloc::{AllocError, Global};
 
 /// A block of cells around shapes of at most 64 cells, and the squares that they touch.
 #[derive(Debug, Drop)]
 pub(crate) struct Covered {
     block: Cells,
-    marks: Marks<WORDS>,
+    marks: Marks<SQUARE_WORDS>,
 }
 
 /// The least block of cells that contains both.
@@ -38,7 +37,7 @@ impl Covered {
         ensures { IfOk result (λ covered. IsCovered covered (block_at cells)) }
     {
         let mut marks = Marks::none(alloc)?;
-        mark(&mut marks, cells);
+        mark_squares(&mut marks, cells);
         Ok(Covered {
             block: cells,
             marks,
@@ -52,7 +51,7 @@ impl Covered {
         ensures more { IsCovered result (block_at cells) }
     {
         let mut marks = self.marks;
-        mark(&mut marks, cells);
+        mark_squares(&mut marks, cells);
         Covered {
             block: around(self.block, cells),
             marks,
@@ -74,6 +73,6 @@ impl Covered {
     pub(crate) fn may_share(&self, asked: Cells) -> bool
         ensures { result ≡ false → (own : Block) → IsCovered self.now own → is_candidate (block_at asked) (Some own) ≡ false }
     {
-        self.block.share_a_cell(asked) && has_some(&self.marks, asked)
+        self.block.share_a_cell(asked) && has_marked_square(&self.marks, asked)
     }
 }

@@ -45,6 +45,10 @@ all_fit collection value ps i ds attributes long fit said =
     let all = fit_all value ps (λ k d h. fit k d (omega arith) (omega (arith, h))) in
     rw (said, take_all i ps long, said_all value ps, ← attributes) all
 
+-- the values of all properties are what the attributes of the collection say
+pub all_said : (collection : Collection) (value : Attribute → Datum) (ps : List Property) (i : ℕ) (ds : List Datum) → map attribute_of ps ≡ attributes_of collection → length ps ≤ i → ds ≡ map (says value) (take i ps) → ds ≡ map value (attributes_of collection)
+all_said collection value ps i ds attributes long said = rw (said, take_all i ps long, said_all value ps, attributes) refl
+
 -- ---- with names
 
 abbrev pub with_last : VersionedObject → Option Day → VersionedObject

@@ -1,5 +1,6 @@
 mod EntryLemmas
 mod FeatureLemmas
+mod FoldedLemmas
 mod LawLemmas
 mod ListLemmas
 mod RowLemmas

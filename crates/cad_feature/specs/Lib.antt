@@ -1,6 +1,7 @@
 pub mod Features
 pub mod FeaturesThen
 pub mod Flatten
+pub mod Folded
 pub mod Laws
 pub mod Lifespans
 pub mod Limits

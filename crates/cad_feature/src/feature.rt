@@ -1,7 +1,12 @@
 //! Features.
 
+ghost use Rattle.std.specs.Prelude.{◌≡◌, IfOk, map};
+ghost use Rattle.cad_feature.specs.Values.{datum_of};
+
+use crate::folded::{FoldedText, marks_of_values};
 use crate::{Period, Value};
 use cad_versions::{Identifier, ObjectId, compare_identifiers};
+use std::alloc::{AllocError, Global};
 use std::cmp::Ordering;
 use std::marker::Model;
 
@@ -19,6 +24,8 @@ pub struct Feature {
     pub values: Vec<Value>,
     /// The revisions at which it has these values.
     pub period: Period,
+    /// The marks of its texts with their case folded.
+    folded: u64,
 }
 
 impl Model for Feature {
@@ -31,15 +38,77 @@ impl Model for Feature {
     ghost view = { λ x. record { object = x.object; number = x.number; values = map datum_of x.values.items; period = x.period } };
 
     ghost use Rattle.cad_versions.specs.Identifiers.{IsVersionNumber};
+    ghost use Rattle.cad_feature.specs.Folded.{AreMarked};
 
-    ghost invariant = { λ x. IsVersionNumber x.number };
+    ghost invariant = { λ x. IsVersionNumber x.number × AreMarked x.folded (map datum_of x.values.items) };
+}
+
+fn copies(alloc: Global, values: &[Value]) -> Result<Vec<Value>, AllocError>
+    ensures { IfOk result (λ copies. map datum_of copies.items ≡ map datum_of values.now) }
+{
+    let mut copies = Vec::with_capacity(alloc, values.len())?;
+    for value in values {
+        let copy = value.copy(alloc)?;
+        copies.push(copy)?;
+    }
+    Ok(copies)
 }
 
 impl Feature {
-    ghost use Rattle.std.specs.Prelude.{◌≡◌, MatchOption};
-    ghost use Rattle.cad_versions.specs.Identifiers.{numbers_of as numbers_said};
+    ghost use Rattle.std.specs.Prelude.{◌≡◌, ◌≢◌, ℕ, List, IfOk, MatchOption, false, map};
+    ghost use Rattle.caseless.specs.Caseless.{default_case_fold};
+    ghost use Rattle.cad_versions.specs.Identifiers.{IsVersionNumber, numbers_of as numbers_said};
     ghost use Rattle.cad_feature.specs.Features.{by_identifier, datum_at, numbers_of};
-    ghost use Rattle.cad_feature.specs.Values.{datum_of, null};
+    ghost use Rattle.cad_feature.specs.Values.{a_text, datum_of, null};
+
+    /// The feature of the version with that number of the object, with these values at the revisions of the period.
+    pub fn new(object: ObjectId, number: u32, values: Vec<Value>, period: Period) -> Feature
+        requires { IsVersionNumber number }
+        ensures { result ≡ record { object = object; number = number; values = map datum_of values.items; period = period } }
+    {
+        let folded = marks_of_values(&values);
+        Feature {
+            object,
+            number,
+            values,
+            period,
+            folded,
+        }
+    }
+
+    /// A copy with that period. Texts and regions are shared. An error means out of memory.
+    pub fn copy(&self, alloc: Global, period: Period) -> Result<Feature, AllocError>
+        ensures { IfOk result (λ copy. copy ≡ record self.now { period = period }) }
+    {
+        let values = copies(alloc, &self.values)?;
+        Ok(Feature {
+            object: self.object,
+            number: self.number,
+            values,
+            period,
+            folded: self.folded,
+        })
+    }
+
+    /// The feature with that period.
+    pub fn with_period(self, period: Period) -> Feature
+        ensures { result ≡ record self { period = period } }
+    {
+        let Feature {
+            object,
+            number,
+            values,
+            period: _,
+            folded,
+        } = self;
+        Feature {
+            object,
+            number,
+            values,
+            period,
+            folded,
+        }
+    }
 
     /// Its object and its number.
     pub fn identifier(&self) -> Identifier
@@ -67,5 +136,14 @@ impl Feature {
         } else {
             None
         }
+    }
+
+    /// Whether its value of the property may be a text that is the folded text if its case is folded. Most other texts are told apart by
+    /// one comparison of numbers.
+    pub fn may_fold_to(&self, text: &FoldedText) -> bool
+        ensures { result ≡ false → (own : List ℕ) → datum_at self.now text.now.property ≡ a_text own → default_case_fold own ≢ text.now.text }
+    {
+        let marks = text.marks();
+        self.folded & marks == marks
     }
 }

@@ -59,12 +59,7 @@ pub(crate) fn feature(
         let value = value(alloc, version, last, unit_name, party_name, attribute)?;
         values.push(value)?;
     }
-    Ok(Feature {
-        object: version.object,
-        number: version.number,
-        values,
-        period: Period::always(),
-    })
+    Ok(Feature::new(version.object, version.number, values, Period::always()))
 }
 
 /// The version as a feature of the collection, among these versions.

@@ -1,6 +1,7 @@
 //! The features of a register.
 //!
 //! - [`Feature`], [`Value`]: one version of an object, with its values in the order of the schema.
+//! - [`FoldedText`]: a text with its case folded, by which most features are told apart without a look at their texts.
 //! - [`Period`]: the revisions at which a feature has its values.
 //! - [`flatten`]: the features of a collection, from the versions of a register.
 //! - [`StoredVersions`], [`VersionRows`]: the rows of each version, features with their periods, from the stored versions of a register.
@@ -16,6 +17,7 @@ mod entry_names;
 mod feature;
 mod features_then;
 mod flattening;
+mod folded;
 mod joining;
 pub mod laws;
 mod objects;
@@ -28,6 +30,7 @@ mod version_rows;
 pub use cad_schema::{Collection, Property, PropertyKind, find_property, schema};
 pub use feature::Feature;
 pub use flattening::{flatten, is_in};
+pub use folded::FoldedText;
 pub use period::Period;
 pub use range::{Edge, Range, Scalar};
 pub use value::Value;

@@ -2,6 +2,7 @@
 
 use cad_day::{Day, Interval};
 use cad_shape::{Point, Region, ShapeRef};
+use std::alloc::{AllocError, Global};
 use std::rc::Rc;
 
 /// A value of one property. It takes 16 bytes: what needs more is stored outside it.
@@ -26,9 +27,37 @@ pub enum Value {
 }
 
 impl Value {
-    ghost use Rattle.std.specs.Prelude.{◌≡◌, option_map};
+    ghost use Rattle.std.specs.Prelude.{◌≡◌, IfOk, option_map};
     ghost use Rattle.cad_shape.specs.Shapes.{lent_shape};
     ghost use Rattle.cad_feature.specs.Values.{datum_of, whole_in, day_in, span_in, shape_in};
+
+    /// A copy. A text or a region is shared. An error means out of memory.
+    pub fn copy(&self, alloc: Global) -> Result<Value, AllocError>
+        ensures { IfOk result (λ copy. datum_of copy ≡ datum_of self.now) }
+    {
+        match self {
+            Value::Null => Ok(Value::Null),
+            Value::Text(text) => {
+                let text = text.clone()?;
+                Ok(Value::Text(text))
+            }
+            Value::Whole(number) => Ok(Value::Whole(*number)),
+            Value::Flag(flag) => Ok(Value::Flag(*flag)),
+            Value::Day(day) => Ok(Value::Day(*day)),
+            Value::Span(days) => {
+                let days = Box::new(alloc, **days)?;
+                Ok(Value::Span(days))
+            }
+            Value::Spot(point) => {
+                let point = Box::new(alloc, **point)?;
+                Ok(Value::Spot(point))
+            }
+            Value::Area(region) => {
+                let region = region.copy()?;
+                Ok(Value::Area(region))
+            }
+        }
+    }
 
     /// The whole number, if it is one.
     pub fn as_whole(&self) -> Option<i64>

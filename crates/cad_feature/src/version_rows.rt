@@ -47,18 +47,8 @@ fn row(
     ensures fits { IfOk result (IsFeatureOf collection) }
 {
     let start = u64::from(period.start);
-    let Feature {
-        object,
-        number,
-        values,
-        period: _,
-    } = feature_then(alloc, entries, entry, start, collection)?;
-    Ok(Feature {
-        object,
-        number,
-        values,
-        period,
-    })
+    let feature = feature_then(alloc, entries, entry, start, collection)?;
+    Ok(feature.with_period(period))
 }
 
 /// The rows of the entry's version up to the revision, the oldest first.

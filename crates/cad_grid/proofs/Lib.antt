@@ -8,4 +8,5 @@ pub mod Ascending
 pub mod Looks
 pub mod CellLemmas
 pub mod SharedLemmas
+pub mod SquareLemmas
 pub mod CountedTests

@@ -4,4 +4,5 @@ pub mod Near
 pub mod Laws
 pub mod Entries
 pub mod Grids
+pub mod Squares
 pub mod lemmas

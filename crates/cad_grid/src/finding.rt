@@ -2,10 +2,13 @@
 
 ghost use Rattle.std.specs.Prelude.{◌≡◌, ◌+◌, ◌&&◌, IfOk, None, filter, get_or, length};
 ghost use Rattle.cad_grid.specs.Entries.{Ascends, found_in, is_first_at};
+ghost use Rattle.cad_grid.specs.Squares.{AreEntriesMarked};
 
 use crate::entry::Entry;
-use crate::walking::next_inside;
+use crate::squares::SQUARE_WORDS;
+use crate::walking::{first_inside, next_inside};
 use crate::{Cells, PositionTest};
+use cad_marks::Marks;
 use std::alloc::{AllocError, Global};
 
 // Whether the entry is in the first cell, by rows, that its shape's cells and the asked ones share.
@@ -49,15 +52,17 @@ fn count_listed<T: PositionTest>(positions: &[u32], test: &T) -> u64
 pub(crate) fn count_found<T: PositionTest>(
     cells: &[Option<Cells>],
     wide: &[u32],
+    marks: &Marks<SQUARE_WORDS>,
     entries: &[Entry],
     asked: Cells,
     test: &T,
 ) -> u64
-    requires { Ascends entries.now }
+    requires marked { AreEntriesMarked marks.now entries.now }
+    requires ascends { Ascends entries.now }
     ensures { result ≡ length (filter (T.passes test.now) (found_in asked cells.now wide.now entries.now)) }
 {
     let mut found = count_listed(wide, test);
-    let mut at = next_inside(entries, 0, asked);
+    let mut at = first_inside(marks, entries, asked);
     while at < entries.len() {
         if is_first_and_passes(cells, entries[at], asked, test) {
             found += 1;
@@ -72,14 +77,16 @@ pub(crate) fn list_found(
     alloc: Global,
     cells: &[Option<Cells>],
     wide: &[u32],
+    marks: &Marks<SQUARE_WORDS>,
     entries: &[Entry],
     asked: Cells,
 ) -> Result<Vec<u32>, AllocError>
-    requires { Ascends entries.now }
+    requires marked { AreEntriesMarked marks.now entries.now }
+    requires ascends { Ascends entries.now }
     ensures { IfOk result (λ v. v.items ≡ found_in asked cells.now wide.now entries.now) }
 {
     let mut found = Vec::from_slice(alloc, wide)?;
-    let mut at = next_inside(entries, 0, asked);
+    let mut at = first_inside(marks, entries, asked);
     while at < entries.len() {
         let entry = entries[at];
         if is_first(cells, entry, asked) {

@@ -7,8 +7,10 @@ use crate::entry::Entry;
 use crate::finding::{count_found, list_found};
 use crate::passing::{count_passing, list_passing};
 use crate::position_test::EveryPosition;
+use crate::squares::{SQUARE_WORDS, marks_of};
 use crate::{Cells, PositionTest};
 use cad_feature::Feature;
+use cad_marks::Marks;
 use cad_shape::Bounds;
 use std::alloc::{AllocError, Global};
 use std::marker::Model;
@@ -19,6 +21,7 @@ pub struct Grid {
     cells: Vec<Option<Cells>>,
     wide: Vec<u32>,
     entries: Vec<Entry>,
+    marks: Marks<SQUARE_WORDS>,
 }
 
 impl Model for Grid {
@@ -26,12 +29,13 @@ impl Model for Grid {
     ghost use Rattle.cad_grid.specs.Blocks.{Block};
     ghost use Rattle.cad_grid.specs.Counted.{block_at};
     ghost use Rattle.cad_grid.specs.Entries.{IsGrid};
+    ghost use Rattle.cad_grid.specs.Squares.{AreEntriesMarked};
 
     ghost Value = { List (Option Block) };
 
     ghost view = { λ g. map (option_map block_at) g.cells.items };
 
-    ghost invariant = { λ g. IsGrid g.cells.items g.wide.items g.entries.items };
+    ghost invariant = { λ g. IsGrid g.cells.items g.wide.items g.entries.items × AreEntriesMarked g.marks g.entries.items };
 }
 
 impl Grid {
@@ -53,10 +57,12 @@ impl Grid {
             enter_shape(&mut wide, &mut entries, cells, position as u32)?;
         }
         entries.sort_unstable();
+        let marks = marks_of(alloc, &entries)?;
         Ok(Grid {
             cells: all,
             wide,
             entries,
+            marks,
         })
     }
 
@@ -82,7 +88,14 @@ impl Grid {
         if self.are_many(asked) {
             count_passing(&self.cells, asked, test)
         } else {
-            count_found(&self.cells, &self.wide, &self.entries, asked, test)
+            count_found(
+                &self.cells,
+                &self.wide,
+                &self.marks,
+                &self.entries,
+                asked,
+                test,
+            )
         }
     }
 
@@ -95,7 +108,14 @@ impl Grid {
             let found = list_passing(alloc, &self.cells, asked)?;
             return Ok(found);
         }
-        let mut found = list_found(alloc, &self.cells, &self.wide, &self.entries, asked)?;
+        let mut found = list_found(
+            alloc,
+            &self.cells,
+            &self.wide,
+            &self.marks,
+            &self.entries,
+            asked,
+        )?;
         found.sort_unstable();
         Ok(found)
     }

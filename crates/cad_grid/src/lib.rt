@@ -3,6 +3,7 @@
 //! - [`Cells`]: the cells that a box touches, whether they are more than 64, and whether two boxes touch a common cell
 //! - [`bounds_of`]: the bounds of a value, if it is a shape
 //! - [`Grid`]: built once over a property; gives the positions near a box, or counts them
+//! - [`mark_squares`], [`has_marked_square`]: squares of eight by eight cells, and which of them are marked
 //! - [`PositionTest`]: which of the positions near a box are counted
 //! - [`laws`]: that cells are squares of 65,536 mm, and that the numbers of columns and rows say which cells a box touches
 //!
@@ -23,9 +24,11 @@ mod numbers;
 mod passing;
 mod position_test;
 mod shapes;
+mod squares;
 mod walking;
 
 pub use cells::Cells;
 pub use grid::Grid;
 pub use position_test::PositionTest;
 pub use shapes::bounds_of;
+pub use squares::{SQUARE_WORDS, has_marked_square, mark_squares};

@@ -2,9 +2,12 @@
 
 ghost use Rattle.std.specs.Prelude.{◌≡◌, ◌↔◌, ℕ, ◌≤◌, ◌<◌, true, false, length, IsTrue};
 ghost use Rattle.cad_grid.specs.Entries.{Ascends, IsBefore, entry_at, inside};
+ghost use Rattle.cad_grid.specs.Squares.{AreEntriesMarked};
 
 use crate::Cells;
 use crate::entry::Entry;
+use crate::squares::{SQUARE_WORDS, has_marked_square};
+use cad_marks::Marks;
 
 fn is_before(entry: Entry, row: u32, column: u32) -> bool
     ensures { IsTrue result ↔ IsBefore row column entry }
@@ -75,4 +78,19 @@ pub(crate) fn next_inside(entries: &[Entry], from: usize, asked: Cells) -> usize
         at = next;
     }
     at
+}
+
+/// The first place whose entry lies in the asked cells, or the end. There is no search if no square with some of the cells has an entry.
+pub(crate) fn first_inside(marks: &Marks<SQUARE_WORDS>, entries: &[Entry], asked: Cells) -> usize
+    requires marked { AreEntriesMarked marks.now entries.now }
+    requires ascends { Ascends entries.now }
+    ensures within { result ≤ length entries.now }
+    ensures inside { result < length entries.now → inside asked (entry_at entries.now result) ≡ true }
+    ensures passed { (k : ℕ) → k < result → inside asked (entry_at entries.now k) ≡ false }
+{
+    if has_marked_square(marks, asked) {
+        next_inside(entries, 0, asked)
+    } else {
+        entries.len()
+    }
 }

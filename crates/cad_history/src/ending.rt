@@ -5,64 +5,36 @@ ghost use Rattle.std.specs.Option.{option_copied};
 ghost use Rattle.std.specs.List.{AllByRecursion};
 ghost use Rattle.std.specs.List.Sorted.{IsStrictlySortedBy};
 ghost use Rattle.cad_feature.specs.Features.{AreFeaturesOf, by_identifier};
-ghost use Rattle.cad_feature.specs.Values.{datum_of};
 ghost use Rattle.cad_index.specs.Layers.{LayerFeatures};
 ghost use Rattle.cad_history.specs.inner.Ending.{absent_in, begun as begun_of, ended as ended_of, has_version as has_version_of, is_in_none as is_in_none_of, listed, one_more, present_in, replaced_by, with_ended};
 
-use cad_feature::{Feature, Period, Value};
-use cad_layer::{Layer, copy_value};
+use cad_feature::{Feature, Period};
+use cad_layer::Layer;
 use cad_schema::Collection;
 use std::alloc::{AllocError, Global};
 
 /// The most rows of a list: their positions are numbers of 32 bits.
 pub(crate) const MOST_ROWS: usize = 4_294_967_295;
 
-fn copy_values(alloc: Global, values: &[Value]) -> Result<Vec<Value>, AllocError>
-    ensures { IfOk result (λ copies. map datum_of copies.items ≡ map datum_of values.now) }
-{
-    let mut copies = Vec::with_capacity(alloc, values.len())?;
-    for value in values {
-        let copy = copy_value(alloc, value)?;
-        copies.push(copy)?;
-    }
-    Ok(copies)
-}
-
 /// A copy of the row, whose period ends with the revision.
 fn ended(alloc: Global, row: &Feature, revision: u32) -> Result<Feature, AllocError>
     ensures { IfOk result (λ copy. copy ≡ ended_of revision row.now) }
 {
-    let values = copy_values(alloc, &row.values)?;
-    Ok(Feature {
-        object: row.object,
-        number: row.number,
-        values,
-        period: Period {
-            start: row.period.start,
-            end: revision,
-        },
-    })
+    let period = Period {
+        start: row.period.start,
+        end: revision,
+    };
+    row.copy(alloc, period)
 }
 
 /// The feature, whose period begins with the revision.
 fn begun(feature: Feature, revision: u32) -> Feature
     ensures { result ≡ begun_of revision feature }
 {
-    let Feature {
-        object,
-        number,
-        values,
-        period: _,
-    } = feature;
-    Feature {
-        object,
-        number,
-        values,
-        period: Period {
-            start: revision,
-            end: u32::MAX,
-        },
-    }
+    feature.with_period(Period {
+        start: revision,
+        end: u32::MAX,
+    })
 }
 
 /// The features, whose periods begin with the revision. An error means out of memory.

@@ -42,7 +42,6 @@ mod walk;
 
 pub use change::{Change, as_changes};
 pub use changed::changes_after;
-pub use copies::copy_value;
 pub use finding::found;
 pub use indexed::Indexed;
 pub use layer::{Layer, OF_A_SEGMENT};

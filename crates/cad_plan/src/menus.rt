@@ -92,6 +92,10 @@ fn plans_for(alloc: Global, form: &Normal, features: &FeaturesAt) -> Result<Vec<
             let plans = only_all(alloc)?;
             Ok(plans)
         }
+        Normal::Folded(_) => {
+            let plans = only_all(alloc)?;
+            Ok(plans)
+        }
         Normal::Near {
             property,
             shape,

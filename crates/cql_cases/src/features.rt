@@ -91,12 +91,8 @@ fn put_text(alloc: Global, values: &mut Vec<Value>, words: Option<&str>) -> Resu
 fn feature(head: Head, values: Vec<Value>) -> Result<Feature> {
     let object = ObjectId::new(head.object).context("an object's number")?;
     let identifier = Identifier::new(object, head.number).context("a version's number")?;
-    Ok(Feature {
-        object: identifier.object,
-        number: identifier.number,
-        values,
-        period: Period::always(),
-    })
+    let period = Period::always();
+    Ok(Feature::new(identifier.object, identifier.number, values, period))
 }
 
 /// What a parcel has in addition to its days.

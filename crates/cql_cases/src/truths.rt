@@ -1,8 +1,8 @@
 //! What filters say about features, and how texts compare.
 
 use crate::features::Features;
-use cad_feature::Feature;
-use cad_schema::Collection;
+use cad_feature::{Feature, FoldedText};
+use cad_schema::{Collection, find_property};
 use cql_lexer::tokens;
 use cql_meaning::{Truth, fold, like, truth};
 use cql_parser::parse;
@@ -72,6 +72,44 @@ fn put_text_answer(
     write!(line, "{likeness} {order} {folded}")
 }
 
+/// The property that is asked and its collection, and the text.
+fn asked_property(rest: &str) -> Option<(Collection, usize, &str)> {
+    let (path, text) = rest.split_once(' ')?;
+    let (name, property) = path.split_once('/')?;
+    let collection = Collection::read(name)?;
+    let (property, _) = find_property(collection, property)?;
+    Some((collection, property, text))
+}
+
+fn put_may_fold(
+    alloc: Global,
+    features: &[Feature],
+    text: &FoldedText,
+    line: &mut String,
+) -> Result<(), AllocError> {
+    line.push_str("may")?;
+    for feature in features {
+        if feature.may_fold_to(text) {
+            let identifier = feature.identifier().text(alloc)?;
+            write!(line, " {identifier}")?;
+        }
+    }
+    Ok(())
+}
+
+fn put_folds_answer(
+    alloc: Global,
+    features: &Features,
+    rest: &str,
+    line: &mut String,
+) -> Result<(), AllocError> {
+    let Some((collection, property, text)) = asked_property(rest) else {
+        return line.push_str("no property");
+    };
+    let text = FoldedText::new(property, String::from_str(alloc, text)?);
+    put_may_fold(alloc, features.of(collection), &text, line)
+}
+
 fn put_collection_answer(
     alloc: Global,
     features: &Features,
@@ -107,6 +145,9 @@ pub fn put_answer(
             Some((text, pattern)) => put_text_answer(alloc, text, pattern, line),
             None => line.push_str("unread"),
         };
+    }
+    if name == "folds" {
+        return put_folds_answer(alloc, features, rest, line);
     }
     match Collection::read(name) {
         Some(collection) => put_collection_answer(alloc, features, collection, rest, line),

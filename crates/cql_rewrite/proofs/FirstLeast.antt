@@ -3,7 +3,7 @@ use Rattle.std.proofs.Common.{◌≡◌, ◌∙◌, ap, refl, ◌<◌, ◌≤◌
 use Rattle.std.specs.Prelude.{nat_lt, if◌then◌else◌}
 use Rattle.std.specs.List.{AllByRecursion}
 use Rattle.std.proofs.lemmas.List.Elements.{All-from_recursion}
-use Rattle.cad_lookup.specs.Ways.{Way, all_features, Counts, cost, min_of}
+use Rattle.cad_lookup.specs.Ways.{Way, all_features, Counts, cost}
 use Rattle.cql_rewrite.specs.declared.form.Normal.{Normal}
 use Rattle.cql_rewrite.specs.declared.form.Normal.TheOpen.{Normal-F}
 use Rattle.cql_rewrite.specs.declared.form.Normal.TheFolds.{fold_out-Normal, map-Normal}
@@ -87,6 +87,7 @@ step_first counts (Normal-F.Range r) = first_of counts all_features _
 step_first counts (Normal-F.Like pattern r) = first_of counts all_features _
 step_first counts (Normal-F.Atom f side) = first_of counts all_features _
 step_first counts (Normal-F.Owned f side) = first_of counts all_features _
+step_first counts (Normal-F.Folded text) = first_of counts all_features _
 step_first counts (Normal-F.Near f property shape) = first_of counts all_features _
 step_first counts (Normal-F.And parts) = first_of counts all_features _
 step_first counts (Normal-F.Or parts) = first_of counts all_features _

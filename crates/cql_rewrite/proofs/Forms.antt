@@ -4,12 +4,13 @@ use Rattle.std.specs.List.{list_all, list_any}
 use Rattle.std.specs.declared.alloc.Global.{Global}
 use Rattle.std.proofs.Common.{String}
 use Rattle.cad_feature.specs.Features.{Item, datum_at}
+use Rattle.cad_feature.specs.Folded.{FoldedValue}
 use Rattle.cql_text.specs.Fronts.{text_of}
 use Rattle.cql_meaning.specs.Values.{text_in}
 use Rattle.cad_feature.specs.declared.range.Range.{Range as RangeOf}
 use Rattle.cad_range.specs.Ranges.{lies_in}
 use Rattle.cql_rewrite.specs.declared.form.Normal.{Normal}
-use Rattle.cql_rewrite.specs.declared.form.Normal.TheVariants.{Constant, Range, Like, Owned, Near, And, Or, rolls-Constant, rolls-Range, rolls-Like, rolls-Owned, rolls-Near, rolls-And, rolls-Or}
+use Rattle.cql_rewrite.specs.declared.form.Normal.TheVariants.{Constant, Range, Like, Owned, Folded, Near, And, Or, rolls-Constant, rolls-Range, rolls-Like, rolls-Owned, rolls-Folded, rolls-Near, rolls-And, rolls-Or}
 use Rattle.cql_rewrite.specs.declared.form.Normal.TheFolds.{fold-roll-Normal}
 use Rattle.cql_rewrite.specs.declared.form.Normal.TheOpen.{Normal-F}
 use Rattle.std.proofs.Common.{◌<◌, zero, suc, length, get_or, Option, Some, None, Bor, arith}
@@ -23,7 +24,7 @@ use Rattle.cad_grid.specs.Near.{is_near}
 use Rattle.cql_types.specs.declared.filter.Filter.{Filter}
 use Rattle.cad_range.specs.Ranges.{lies_in_if_any}
 use Rattle.cql_meaning.specs.Sides.{Sides, conjunction}
-use Rattle.cql_rewrite.specs.Meets.{folds, folds_step, in_side, is_liked, joined_test, meet_step, meets, side_of}
+use Rattle.cql_rewrite.specs.Meets.{folds, folds_step, in_side, is_folded_to, is_liked, joined_test, meet_step, meets, side_of}
 use Rattle.cql_meaning.specs.lemmas.ListLemmas.{list_any-map}
 
 -- two clauses of one returned value
@@ -54,6 +55,9 @@ told_by_second false false h = refl
 
 pub meets_Owned : (x : Item) (f : Filter) (side : Bool) → meets x (Owned f side) ≡ in_side side x f
 meets_Owned x f side = ap (meets x) (sym (rolls-Owned f side)) ∙ fold-roll-Normal Bool (meet_step x) (Normal-F.Owned f side)
+
+pub meets_Folded : (x : Item) (text : FoldedValue) → meets x (Folded text) ≡ is_folded_to (text_in (datum_at x text.property)) text.text
+meets_Folded x text = ap (meets x) (sym (rolls-Folded text)) ∙ fold-roll-Normal Bool (meet_step x) (Normal-F.Folded text)
 
 pub meets_And : (x : Item) (v : Vec Normal Global) → meets x (And v) ≡ list_all (meets x) v.items
 meets_And x v = ap (meets x) (sym (rolls-And v)) ∙ fold-roll-Normal Bool (meet_step x) (Normal-F.And v) ∙ list_all-map (λ b. b) (meets x) v.items

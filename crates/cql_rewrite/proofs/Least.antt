@@ -9,7 +9,7 @@ use Rattle.cql_types.specs.declared.filter.Filter.{Filter}
 use Rattle.cad_feature.specs.declared.range.Range.{Range as RangeOf}
 use Rattle.cad_range.specs.Ranges.{lies_in, lies_in_if_any}
 use Rattle.cql_rewrite.specs.declared.form.Normal.{Normal}
-use Rattle.cql_rewrite.specs.declared.form.Normal.TheVariants.{Constant, Range, Like, And, Or, rolls-Constant, rolls-Range, rolls-Like, rolls-And}
+use Rattle.cql_rewrite.specs.declared.form.Normal.TheVariants.{Constant, Range, Like, And, rolls-Constant, rolls-Range, rolls-Like, rolls-And}
 use Rattle.cql_rewrite.specs.declared.form.Normal.TheFolds.{fold-roll-Normal, fold_out-Normal}
 use Rattle.cql_rewrite.specs.declared.form.Normal.TheOpen.{Normal-F}
 use Rattle.cql_rewrite.specs.Meets.{Written, meets}
@@ -83,6 +83,7 @@ step_under t (Normal-F.Range r) = count_at_most (λ x. lies_in x.item r) t
 step_under t (Normal-F.Like pattern r) = count_at_most (λ x. lies_in x.item r) t
 step_under t (Normal-F.Atom f side) = omega arith
 step_under t (Normal-F.Owned f side) = omega arith
+step_under t (Normal-F.Folded text) = omega arith
 step_under t (Normal-F.Near f property shape) = omega arith
 step_under t (Normal-F.And parts) = min_of_under (every t) parts.items
 step_under t (Normal-F.Or parts) = omega arith

@@ -2,6 +2,7 @@ pub mod AtomLemmas
 pub mod Covered
 pub mod FirstLeast
 pub mod FoldedLemmas
+pub mod FoldedTexts
 pub mod Forms
 pub mod FrontLemmas
 pub mod Least

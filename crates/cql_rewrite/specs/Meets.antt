@@ -2,6 +2,7 @@
 use Rattle.std.specs.Prelude.{◌≡◌, ℕ, Bool, true, false, ◌&&◌, ◌||◌, List, Option, Some, None}
 use Rattle.std.specs.List.{list_all, list_any}
 use Rattle.std.specs.Str.{all_scalars}
+use Rattle.caseless.specs.Caseless.{default_case_fold}
 use Rattle.cad_shape.specs.Shapes.{shape_corners}
 use Rattle.cad_grid.specs.Blocks.{block_around}
 use Rattle.cad_grid.specs.Near.{is_near}
@@ -10,7 +11,8 @@ use Rattle.cad_range.specs.Ranges.{lies_in}
 use Rattle.cql_text.specs.Fronts.{text_of}
 use Rattle.cql_text.specs.Patterns.{like_test}
 use Rattle.cql_types.specs.declared.filter.Filter.{Filter}
-use Rattle.cql_meaning.specs.Sides.{Sides, sides}
+use Rattle.cql_lexer.specs.declared.token.Comparison.TheVariants as comparison
+use Rattle.cql_meaning.specs.Sides.{Sides, sides, texts}
 use Rattle.cql_meaning.specs.Folding.{folds_case}
 use Rattle.cql_meaning.specs.Values.{text_in}
 use Rattle.cql_rewrite.specs.declared.form.Normal.{Normal}
@@ -41,6 +43,11 @@ abbrev pub is_liked : Option (List ℕ) → List ℕ → Bool
 is_liked None pattern = false
 is_liked (Some text) pattern = like_test pattern text
 
+-- there is a text, and it is this one if its case is folded
+abbrev pub is_folded_to : Option (List ℕ) → List ℕ → Bool
+is_folded_to None folded = false
+is_folded_to (Some text) folded = texts comparison.Equal (default_case_fold text) folded
+
 -- a form, with whether the feature meets each part in the part's place
 abbrev pub meet_step : Item → Normal-F Bool → Bool
 meet_step x (Normal-F.Constant b) = b
@@ -48,6 +55,7 @@ meet_step x (Normal-F.Range r) = lies_in x r
 meet_step x (Normal-F.Like pattern r) = lies_in x r && is_liked (text_in (datum_at x r.property)) (text_of pattern)
 meet_step x (Normal-F.Atom f side) = in_side side x f.now
 meet_step x (Normal-F.Owned f side) = in_side side x f
+meet_step x (Normal-F.Folded text) = is_folded_to (text_in (datum_at x text.property)) text.text
 meet_step x (Normal-F.Near f property shape) = is_near property (block_around (shape_corners shape.now)) x && in_side true x f.now
 meet_step x (Normal-F.And parts) = list_all (λ b. b) parts.items
 meet_step x (Normal-F.Or parts) = list_any (λ b. b) parts.items
@@ -86,6 +94,7 @@ folds_step (Normal-F.Range r) = false
 folds_step (Normal-F.Like pattern r) = false
 folds_step (Normal-F.Atom f side) = folds_case f.now
 folds_step (Normal-F.Owned f side) = folds_case f
+folds_step (Normal-F.Folded text) = false
 folds_step (Normal-F.Near f property shape) = folds_case f.now
 folds_step (Normal-F.And parts) = list_any (λ b. b) parts.items
 folds_step (Normal-F.Or parts) = list_any (λ b. b) parts.items

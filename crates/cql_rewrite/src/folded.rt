@@ -8,6 +8,7 @@ ghost use Rattle.cql_rewrite.specs.Atoms.{HasPlainAtoms, IsAtom};
 ghost use Rattle.cql_rewrite.specs.Meets.{in_side, meets};
 ghost use Rattle.cql_rewrite.specs.Terms.{filter_or, in_text_sides, like_sides, text_sides};
 
+use crate::folded_equality::folded_equality;
 use crate::form::Normal;
 use crate::terms::copied;
 use cql_lexer::Comparison;
@@ -148,7 +149,19 @@ fn settled_filter(alloc: Global, filter: &Filter) -> Result<Option<Filter>, Allo
     }
 }
 
-/// The filter as a condition by itself.
+// The filter, with its constants folded.
+fn settled_atom<'a>(alloc: Global, filter: &'a Filter, side: bool) -> Result<Normal<'a>, AllocError>
+    ensures stands { IfOk result (λ n. (x : Item) → meets x n ≡ in_side side x filter.now) }
+    ensures atoms { IfOk result (λ n. IsAtom filter.now → HasPlainAtoms n) }
+{
+    let settled = settled_filter(alloc, filter)?;
+    match settled {
+        Some(filter) => Ok(Normal::Owned { filter, side }),
+        None => Ok(Normal::Atom { filter, side }),
+    }
+}
+
+/// The filter as a condition by itself. An error means out of memory.
 pub(crate) fn atom<'a>(
     alloc: Global,
     filter: &'a Filter,
@@ -157,9 +170,9 @@ pub(crate) fn atom<'a>(
     ensures stands { IfOk result (λ n. (x : Item) → meets x n ≡ in_side side x filter.now) }
     ensures atoms { IfOk result (λ n. IsAtom filter.now → HasPlainAtoms n) }
 {
-    let settled = settled_filter(alloc, filter)?;
-    match settled {
-        Some(filter) => Ok(Normal::Owned { filter, side }),
-        None => Ok(Normal::Atom { filter, side }),
+    let equality = folded_equality(alloc, filter, side)?;
+    match equality {
+        Some(form) => Ok(form),
+        None => settled_atom(alloc, filter, side),
     }
 }

@@ -1,5 +1,6 @@
 //! Normal forms.
 
+use cad_feature::FoldedText;
 use cad_range::Range;
 use cad_shape::Shape;
 use cql_types::Filter;
@@ -27,6 +28,8 @@ pub enum Normal<'a> {
         filter: Filter,
         side: bool,
     },
+    /// The feature has this text, with its case folded.
+    Folded(FoldedText),
     /// The filter is true of the feature, and its shape of the property is near the shape: its bounds touch more than 64
     /// cells, or a cell that the shape's bounds touch.
     Near {

@@ -15,6 +15,7 @@ mod boxes;
 mod comparison;
 mod flags;
 mod folded;
+mod folded_equality;
 mod form;
 pub mod laws;
 mod likes;

@@ -11,15 +11,15 @@ ghost use Rattle.cad_feature.specs.Values.{datum_of};
 ghost use Rattle.cql_text.specs.Fronts.{text_of};
 ghost use Rattle.cql_meaning.specs.Folding.{folds_case};
 ghost use Rattle.cql_meaning.specs.Values.{text_in};
-ghost use Rattle.cql_rewrite.specs.Meets.{folds, in_side, is_liked as is_liked_of, meets};
+ghost use Rattle.cql_rewrite.specs.Meets.{folds, in_side, is_folded_to, is_liked as is_liked_of, meets};
 
 use crate::form::Normal;
-use cad_feature::{Feature, Value};
+use cad_feature::{Feature, FoldedText, Value};
 use cad_grid::{Cells, bounds_of};
 use cad_range::lies_in;
 use cad_shape::{Shape, bounds};
 use cql_meaning::{Truth, truth};
-use cql_text::like;
+use cql_text::{compare_folded, like};
 use cql_types::Filter;
 use std::alloc::{AllocError, Global};
 
@@ -58,6 +58,33 @@ fn is_liked_at(feature: &Feature, property: usize, pattern: &String) -> bool
     } else {
         false
     }
+}
+
+fn is_folded(value: &Value, text: &str) -> bool
+    ensures { result ≡ is_folded_to (text_in (datum_of value.now)) (chars text.now) }
+{
+    match value {
+        Value::Text(own) => compare_folded(own.as_ref().as_str(), text).is_eq(),
+        _ => false,
+    }
+}
+
+fn is_folded_at(feature: &Feature, text: &FoldedText) -> bool
+    ensures { result ≡ is_folded_to (text_in (datum_at feature.now text.now.property)) text.now.text }
+{
+    let property = text.property();
+    if property < feature.values.len() {
+        is_folded(&feature.values[property], text.as_str())
+    } else {
+        false
+    }
+}
+
+// The marks are compared first: of most features no text is looked at.
+fn has_folded(feature: &Feature, text: &FoldedText) -> bool
+    ensures { result ≡ is_folded_to (text_in (datum_at feature.now text.now.property)) text.now.text }
+{
+    feature.may_fold_to(text) && is_folded_at(feature, text)
 }
 
 // Whether the two have a cell in common, or the feature has more than 64 cells.
@@ -119,6 +146,7 @@ pub fn test(alloc: Global, form: &Normal, feature: &Feature) -> Result<bool, All
         }
         Normal::Atom { filter, side } => is_said(alloc, filter, *side, feature),
         Normal::Owned { filter, side } => is_said(alloc, filter, *side, feature),
+        Normal::Folded(text) => Ok(has_folded(feature, text)),
         Normal::Near {
             filter,
             property,

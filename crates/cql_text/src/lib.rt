@@ -6,16 +6,19 @@
 //! - [`compare`]: the order of texts, by code points.
 //! - [`compare_folded`]: the same of a text with its case folded, without memory for it.
 //! - [`like_range`]: the range of the texts that begin with a pattern's front
+//! - [`hash_of`], [`hash_of_folded`]: the hash of a text, by which most texts are told apart, and that of a text with its case folded
 //! - [`laws`]: what holds of patterns, folding and the order, beyond what each call says.
 #![tactic(auto)]
 
 mod folding;
 mod front;
+mod hash;
 pub mod laws;
 mod order;
 mod pattern;
 
 pub use folding::fold;
 pub use front::{LikeRange, like_range};
+pub use hash::{hash_of, hash_of_folded};
 pub use order::{compare, compare_folded};
 pub use pattern::{like, like_folded};

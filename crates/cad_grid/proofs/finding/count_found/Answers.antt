@@ -7,26 +7,26 @@ use Rattle.cad_grid.proofs.finding.count_found.Goals.{then-is_first_and_passes, 
 
 pub loop-at-init : goal.loop-at-init
 loop-at-init g c =
-    let n = c.next_inside-at.ensures in
+    let n = c.first_inside-at.ensures in
     let keeps = g.T.PositionTest.passes c.args.test.now in
     record {
       within = n.within;
       inside = n.inside;
       few = omega (arith, c.count_listed-found.ensures, few_kept keeps c.args.wide.now);
-      counted = rw c.count_listed-found.ensures (count_start keeps c.args.asked c.args.cells.now c.args.wide.now c.args.entries.now c.next_inside-at.result (record { after = n.after; within = n.within; outside = n.passed }));
+      counted = rw c.count_listed-found.ensures (count_start keeps c.args.asked c.args.cells.now c.args.wide.now c.args.entries.now c.first_inside-at.result (record { after = omega arith; within = n.within; outside = λ k l m. n.passed k m }));
     }
 
 pub loop-at-preserved : goal.loop-at-preserved
 loop-at-preserved g c =
     let a = c.args in
-    let n = c.next_inside-at-in-loop-at.ensures in
+    let n = c.next_inside-at.ensures in
     let i = c.loop-at.invariant in
     let h = c.loop-at-test.true in
     let keeps = g.T.PositionTest.passes a.test.now in
     let e = entry_at a.entries.now c.loop-at.at in
     let first = first_of a.asked a.cells.now e in
-    let rest = left_over a.asked a.cells.now a.entries.now c.next_inside-at-in-loop-at.result in
-    let passed : Passed a.asked a.entries.now (c.loop-at.at + 1) c.next_inside-at-in-loop-at.result = record { after = n.after; within = n.within; outside = n.passed } in
+    let rest = left_over a.asked a.cells.now a.entries.now c.next_inside-at.result in
+    let passed : Passed a.asked a.entries.now (c.loop-at.at + 1) c.next_inside-at.result = record { after = n.after; within = n.within; outside = n.passed } in
     let next = left_inside a.asked a.cells.now a.entries.now c.loop-at.at _ h (i.inside h) passed in
     record {
       within = n.within;

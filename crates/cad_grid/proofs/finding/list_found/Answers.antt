@@ -5,20 +5,20 @@ use Rattle.cad_grid.proofs.finding.list_found.Goals.{then-is_first+in_ok-push, e
 
 pub loop-at-init : goal.loop-at-init
 loop-at-init c =
-    let n = c.next_inside-at.ensures in
+    let n = c.first_inside-at.ensures in
     record {
       within = n.within;
       inside = n.inside;
-      listed = rw c.in_ok-found.ensures.items (list_start c.args.asked c.args.cells.now c.args.wide.now c.args.entries.now c.next_inside-at.result (record { after = n.after; within = n.within; outside = n.passed }));
+      listed = rw c.in_ok-found.ensures.items (list_start c.args.asked c.args.cells.now c.args.wide.now c.args.entries.now c.first_inside-at.result (record { after = omega arith; within = n.within; outside = λ k l m. n.passed k m }));
     }
 
 pub loop-at-preserved : goal.loop-at-preserved
 loop-at-preserved c =
     let a = c.args in
-    let n = c.next_inside-at-in-loop-at.ensures in
+    let n = c.next_inside-at.ensures in
     let i = c.loop-at.invariant in
     let h = c.loop-at-test.true in
-    let passed : Passed a.asked a.entries.now (c.loop-at.at + 1) c.next_inside-at-in-loop-at.result = record { after = n.after; within = n.within; outside = n.passed } in
+    let passed : Passed a.asked a.entries.now (c.loop-at.at + 1) c.next_inside-at.result = record { after = n.after; within = n.within; outside = n.passed } in
     record {
       within = n.within;
       inside = n.inside;

@@ -1,8 +1,11 @@
-use Rattle.cql_rewrite.proofs.Forms.{meets_And, meets_Near, meets_Or, folds_And, folds_Or}
+use Rattle.cql_rewrite.proofs.Forms.{meets_And, meets_Folded, meets_Near, meets_Or, folds_And, folds_Or}
 use Rattle.cql_rewrite.proofs.tested.+tested.Goals as goal
 
 pub test-returns-in-Near-clause-said : goal.test-returns-in-Near-clause-said
 test-returns-in-Near-clause-said m c = rw (c.in-Near.is, meets_Near) c.is_said_near.ensures.said
+
+pub test-returns-in-Folded-clause-said : goal.test-returns-in-Folded-clause-said
+test-returns-in-Folded-clause-said m c = rw (c.in-Folded.is, meets_Folded) c.has_folded.ensures
 
 pub test-returns-in-And-clause-said : goal.test-returns-in-And-clause-said
 test-returns-in-And-clause-said m c = rw (c.in-And.is, meets_And, ← c.deref.ensures.value) c.meets_all.ensures.said

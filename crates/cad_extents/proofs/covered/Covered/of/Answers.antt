@@ -4,4 +4,4 @@ use Rattle.cad_extents.proofs.BlockLemmas.{small_in_own}
 use Rattle.cad_extents.proofs.covered.Covered.of.Goals as goal
 
 pub returns : goal.returns
-returns c = (small_in_own (block_at c.args.cells) c.requires, (c.args.cells, refl, c.mark.ensures.more))
+returns c = (small_in_own (block_at c.args.cells) c.requires, (c.args.cells, refl, c.mark_squares.ensures.more))

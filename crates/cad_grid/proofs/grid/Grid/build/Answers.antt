@@ -23,10 +23,12 @@ pub invariant_of-result : goal.invariant_of-result
 invariant_of-result c =
     let xs = c.args.features.now in
     let i = c.loop-position.invariant in
-    let n : length c.loop-position.all.items ≡ c.loop-position.position = all_counted c.args.place xs c.loop-position.position c.loop-position.all.items (omega arith) i.blocks in
-    record {
-      small = omega arith;
-      listed = i.listed;
-      entered_once = λ q v. entered_moved q v c.loop-position.entries.items _ _ c.sort_unstable.ensures.permutation (i.entered_once q v);
-      ascending = ascends_sorted c.sort_unstable.new.self.items c.sort_unstable.ensures.sorted;
-    }
+    let n : length c.loop-position.all.items ≡ c.loop-position.position = all_counted c.args.place xs c.loop-position.position c.loop-position.all.items (omega arith) i.blocks in (
+      record {
+        small = omega arith;
+        listed = i.listed;
+        entered_once = λ q v. entered_moved q v c.loop-position.entries.items _ _ c.sort_unstable.ensures.permutation (i.entered_once q v);
+        ascending = ascends_sorted c.sort_unstable.new.self.items c.sort_unstable.ensures.sorted;
+      },
+      rw c.deref.ensures.value at c.in_ok-marks.ensures,
+    )

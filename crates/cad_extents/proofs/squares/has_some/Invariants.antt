@@ -1,6 +1,0 @@
-use Rattle.std.proofs.Common.{ℕ, ◌<◌, ◌≤◌, ◌/◌}
-use Rattle.cad_extents.specs.inner.Free.{IsRowFree}
-use Rattle.cad_extents.proofs.squares.has_some.Given as goal
-
-abbrev pub invariant-loop-row : goal.invariant-loop-row
-invariant-loop-row l = (row : ℕ) → l.cells.low / 8 ≤ row → row < l.row → IsRowFree l.marks row (l.cells.left / 8) (l.cells.right / 8)

@@ -1,9 +1,0 @@
-use Rattle.std.proofs.Common.{ℕ, ◌<◌, ◌≤◌}
-use Rattle.cad_extents.specs.Squares.{IsMarked, place_at}
-use Rattle.cad_extents.proofs.squares.mark_row.Given as goal
-
-abbrev pub invariant-loop-column : goal.invariant-loop-column
-invariant-loop-column l = record {
-  own : (k : ℕ) → IsMarked l.initial.marks k → IsMarked l.marks k;
-  more : (column : ℕ) → l.first ≤ column → column < l.column → IsMarked l.marks (place_at l.row column);
-}

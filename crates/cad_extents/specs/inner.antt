@@ -1,2 +1,0 @@
--- Definitions that clauses of private functions cite. No contract of a public call cites them.
-pub mod Free

@@ -1,0 +1,33 @@
+-- Equality with a folded text, by the sides of a comparison, and where no text is folded to it.
+use Rattle.std.proofs.Common.{◌≡◌, ◌≢◌, false, ℕ, List, Option, Some, None, refl}
+use Rattle.std.specs.declared.cmp.Ordering.{Ordering}
+use Rattle.std.specs.declared.cmp.Ordering.TheVariants as ordering
+use Rattle.std.specs.Ordering.{is_eq}
+use Rattle.std.proofs.lemmas.Map.Lookups.{exact_bytes}
+use Rattle.caseless.specs.Caseless.{default_case_fold}
+use Rattle.cad_feature.specs.Values.{Datum, null, a_text, a_whole, a_flag, a_day, a_span, a_spot, an_area}
+use Rattle.cql_lexer.specs.declared.token.Comparison.TheVariants as comparison
+use Rattle.cql_text.specs.Order.{text_cmp}
+use Rattle.cql_meaning.specs.Sides.{compared, texts}
+use Rattle.cql_meaning.specs.Values.{folded_content, text_in}
+use Rattle.cql_rewrite.specs.Meets.{is_folded_to}
+
+pub folded_said : (text : Option (List ℕ)) (folded : List ℕ) → is_folded_to text folded ≡ (compared (texts comparison.Equal) (folded_content text) (Some folded)).yes
+folded_said None folded = refl
+folded_said (Some text) folded = refl
+
+-- a value that is no text with this folding
+pub none_folds_to : (d : Datum) (folded : List ℕ) → ((own : List ℕ) → d ≡ a_text own → default_case_fold own ≢ folded) → is_folded_to (text_in d) folded ≡ false
+none_folds_to null folded none = refl
+none_folds_to (a_whole n) folded none = refl
+none_folds_to (a_flag b) folded none = refl
+none_folds_to (a_day day) folded none = refl
+none_folds_to (a_span days) folded none = refl
+none_folds_to (a_spot p) folded none = refl
+none_folds_to (an_area r) folded none = refl
+none_folds_to (a_text own) folded none = go (text_cmp (default_case_fold own) folded) refl
+  where
+    go : (o : Ordering) → text_cmp (default_case_fold own) folded ≡ o → is_eq o ≡ false
+    go ordering.Less e = refl
+    go ordering.Greater e = refl
+    go ordering.Equal e = absurd (none own refl (exact_bytes (default_case_fold own) folded e))
