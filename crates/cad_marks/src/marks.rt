@@ -30,18 +30,20 @@ fn has_bit(word: u64, bit: u32) -> bool
 }
 
 impl<const WORDS: usize> Marks<WORDS> {
-    ghost use Rattle.std.specs.Prelude.{◌≡◌, ℕ, ◌<◌, ◌*◌, ◌↔◌, IfOk, IsTrue};
+    ghost use Rattle.std.specs.Prelude.{◌≡◌, ◌≢◌, ℕ, ◌<◌, ◌*◌, ◌↔◌, IfOk, IsTrue};
     ghost use Rattle.cad_marks.specs.Marked.{IsMarked};
 
     /// No marks. An error means out of memory.
-    pub fn none(alloc: Global) -> Result<Marks<WORDS>, AllocError> {
+    pub fn none(alloc: Global) -> Result<Marks<WORDS>, AllocError>
+        ensures { IfOk result (λ marks. (k : ℕ) → IsMarked marks k → ⊥) }
+    {
         let words = vec![in alloc; 0; WORDS]?;
         Ok(Marks { words })
     }
 
     /// The same marks in memory of their own. An error means out of memory.
     pub fn copy(&self, alloc: Global) -> Result<Marks<WORDS>, AllocError>
-        ensures { IfOk result (λ marks. (k : ℕ) → IsMarked self.now k → IsMarked marks k) }
+        ensures { IfOk result (λ marks. (k : ℕ) → IsMarked self.now k ↔ IsMarked marks k) }
     {
         let words = Vec::from_slice(alloc, &self.words)?;
         Ok(Marks { words })
@@ -52,6 +54,7 @@ impl<const WORDS: usize> Marks<WORDS> {
         requires { place < 64 * WORDS }
         ensures own { (k : ℕ) → IsMarked self.old k → IsMarked self.new k }
         ensures more { IsMarked self.new place }
+        ensures others { (k : ℕ) → k ≢ place → IsMarked self.new k → IsMarked self.old k }
     {
         let at = (place / 64) as usize;
         self.words[at] = with_bit(self.words[at], place % 64);
