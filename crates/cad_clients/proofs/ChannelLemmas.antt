@@ -1,11 +1,10 @@
 -- What one turn does.
-use Rattle.std.proofs.Common.{◌≡◌, inl, inr, ℕ, ◌+◌, ◌-◌, ◌<◌, ◌≤◌, List, [], ◌∷◌, ◌++◌, Option, length, take, drop, refl, sym, ap, subst, ◌∙◌, arith, length-drop, take-append-drop}
+use Rattle.std.proofs.Common.{◌≡◌, inl, inr, ℕ, ◌+◌, ◌-◌, ◌<◌, ◌≤◌, List, ◌∷◌, ◌++◌, Option, length, take, drop, refl, sym, ap, subst, ◌∙◌, arith, length-drop, take-append-drop}
 use Rattle.std.proofs.Math.Seq.{drop-drop}
 use Rattle.cad_stream.specs.declared.responder.Responder.{Ghosts}
 use Rattle.cad_desk.specs.declared.desk.Desk.{Desk}
 use Rattle.cad_desk.specs.declared.fault.DeskFault.{DeskFault}
-use Rattle.cad_network.specs.Deeds.{Deed, gave, Adds, AddsSome}
-use Rattle.cad_network.specs.lemmas.DeedLemmas.{Adds-trans}
+use Rattle.cad_network.specs.Deeds.{Deed, gave, AddsSome}
 use Rattle.cad_desk.specs.declared.fault.DeskFault.TheVariants.{Memory}
 use Rattle.cad_serve.specs.Serving.{IsPiece}
 use Rattle.cad_clients.specs.declared.channel.Channel.{Channel}
@@ -61,7 +60,3 @@ module _ {R : Type 0} (g : Ghosts R) (c s : ℕ) where
   unkept a b old new channel next bytes result e idle piece head closes =
       subst (λ (t : Turned). AddsSome a b (λ told. IsTurn g c s old channel t new next (gave s bytes ∷ told))) (sym e)
       (head.0, head.1, (idle.ready, (head.0, head.2, inr (refl, (inr (bytes, refl, idle, piece), closes)))))
-
--- and then more
-pub adds_more : (a b d : Option (List Deed)) (first : Deed) (P : List Deed → Type 0) → Adds a b (first ∷ []) → AddsSome b d (λ later. P (first ∷ later)) → AddsSome a d P
-adds_more a b d first P one later = (first ∷ later.0, Adds-trans a b d (first ∷ []) later.0 one later.1, later.2)

@@ -1,5 +1,5 @@
 -- Members of a JSON object, and a map of them.
-use Rattle.std.proofs.Common.{◌≡◌, ℕ, ◌+◌, ◌<◌, ◌++◌, Bor, map, take, get_or, List, [], ◌∷◌, length, Bool, true, false, true≢false, if◌then◌else◌, cond, Some, None, String, Global, nat_cmp, string_bytes, bytes_eq, refl, sym, ap, ◌∙◌, inl, inr, arith}
+use Rattle.std.proofs.Common.{◌≡◌, ℕ, ◌+◌, ◌<◌, ◌++◌, Bor, map, take, get_or, List, [], ◌∷◌, length, Bool, true, false, true≢false, if◌then◌else◌, cond, Some, None, String, Global, nat_cmp, string_bytes, bytes_eq, refl, sym, ap, ◌∙◌, arith}
 use Rattle.std.proofs.lemmas.List.{map-append, take_more}
 use Rattle.std.proofs.lemmas.Map.Text.{is_eq-slice_cmp}
 use Rattle.std.specs.BTreeMap.{is_at}
@@ -11,7 +11,6 @@ use Rattle.serde_json.specs.Find.{get_member, as_null}
 use Rattle.serde_json.specs.View.{members_view, view}
 use Rattle.serde_json.specs.declared.value.Value.{Value}
 use Rattle.cad_commands.specs.Members.{unless_null, member_in, without, without_all}
-use Rattle.cad_dry_run.specs.Causes.{HasName}
 
 -- a member that is null is not there
 pub null_member : (name : List ℕ) (ms : Members) (d : Data) (b : Bool) → Some d ≡ get_member name ms → b ≡ is_some (as_null d) → b ≡ true → None ≡ member_in name ms
@@ -51,16 +50,6 @@ without_all-next names i d ms h =
 pub none_left : (es : List (String Global × Value)) → (0 < length es → ⊥) → members_view es ≡ no_members
 none_left [] none = refl
 none_left (e ∷ es) none = absurd (none (omega arith))
-
--- the first entry of a map is its first member
-pub first_left : (es : List (String Global × Value)) (e : String Global × Value) (rest : List (String Global × Value)) → es ≡ e ∷ rest → members_view es ≡ member (string_bytes e.0) (view e.1) (members_view rest)
-first_left es e rest is = ap members_view is
-
-pub first_named : (e : String Global × Value) (rest : List (String Global × Value)) (others : Members) → others ≡ member (string_bytes e.0) (view e.1) (members_view rest) → HasName (string_bytes e.0) others
-first_named e rest others is = rw is (inl refl)
-
-pub second_named : (name : List ℕ) (d : Data) (e : String Global × Value) (rest : List (String Global × Value)) (others : Members) → others ≡ member name d (member (string_bytes e.0) (view e.1) (members_view rest)) → HasName (string_bytes e.0) others
-second_named name d e rest others is = rw is (inr (inl refl))
 
 -- what was found by a text that is a name
 pub found_by : (name text : List ℕ) (ms : Members) (d : Data) → Some d ≡ member_in text ms → text ≡ name → member_in name ms ≡ Some d

@@ -1,5 +1,5 @@
 -- Values of JSON, and lists of them.
-use Rattle.std.proofs.Common.{◌≡◌, ℕ, ◌<◌, List, [], ◌∷◌, ◌++◌, ◌+◌, length, take, get_or, Option, Some, None, refl, sym, ap, ◌∙◌}
+use Rattle.std.proofs.Common.{◌≡◌, ℕ, ◌<◌, List, [], ◌∷◌, ◌++◌, ◌+◌, length, take, get_or, Some, refl, sym, ap, ◌∙◌}
 use Rattle.std.proofs.lemmas.List.{take_more}
 use Rattle.serde_json.specs.Data.{Data, no_items, item}
 use Rattle.serde_json.proofs.Views.{get_item_within}
@@ -8,8 +8,7 @@ use Rattle.serde_json.specs.View.{items_view, view}
 use Rattle.serde_json.specs.declared.value.Value.{Value}
 use Rattle.cad_shape.specs.declared.point.Point.{Point}
 use Rattle.cad_shape.specs.declared.ring.Ring.{Ring}
-use Rattle.cad_commands.specs.Values.{IsPairOf, IsPointOf, ArePointsOf, IsRingOf, AreRingsOf}
-use Rattle.cad_dry_run.specs.ValueFaults.{IsPairBy}
+use Rattle.cad_commands.specs.Values.{IsPointOf, ArePointsOf, IsRingOf, AreRingsOf}
 
 -- other than two values are no pair
 pub no_pair : (vs : List Value) → (length vs ≡ 2 → ⊥) → (first second : Data) → items_view vs ≡ item first (item second no_items) → ⊥
@@ -17,23 +16,6 @@ no_pair [] other first second e = cc
 no_pair (a ∷ []) other first second e = cc
 no_pair (a ∷ (b ∷ [])) other first second e = other refl
 no_pair (a ∷ (b ∷ (c ∷ vs))) other first second e = cc
-
--- without a pair there is no pair of numbers
-pub no_pair_by : {X : Type 0} (number : Data → Option X) (d : Data) → ((first second : Data) → IsPairOf d first second → ⊥) → (m n : X) → IsPairBy number d m n → ⊥
-no_pair_by number d none m n pair = none pair.0 pair.1 pair.2
-
--- nor if the first value of the pair is none
-pub no_first_by : {X : Type 0} (number : Data → Option X) (d a b : Data) → IsPairOf d a b → number a ≡ None → (m n : X) → IsPairBy number d m n → ⊥
-no_first_by number d a b is none m n pair =
-    let same : item a (item b no_items) ≡ item pair.0 (item pair.1 no_items) = cc in
-    let first : a ≡ pair.0 = cc in
-    cc
-
-pub no_second_by : {X : Type 0} (number : Data → Option X) (d a b : Data) → IsPairOf d a b → number b ≡ None → (m n : X) → IsPairBy number d m n → ⊥
-no_second_by number d a b is none m n pair =
-    let same : item a (item b no_items) ≡ item pair.0 (item pair.1 no_items) = cc in
-    let second : b ≡ pair.1 = cc in
-    cc
 
 points_more : (vs : List Value) (v : Value) (points : List Point) (point : Point) → ArePointsOf (items_view vs) points → IsPointOf (view v) point → ArePointsOf (items_view (vs ++ v ∷ [])) (points ++ point ∷ [])
 points_more [] v [] point are is = (is, tt)

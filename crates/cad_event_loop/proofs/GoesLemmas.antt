@@ -1,5 +1,5 @@
 -- What is done, one thing after the other, and then more.
-use Rattle.std.proofs.Common.{◌≡◌, ◌⊎◌, ℕ, ◌+◌, ◌<◌, ◌≤◌, nat_eq, Bool, true, false, ◌||◌, List, [], ◌∷◌, ◌++◌, map, length, length-append, Option, None, Some, IsSomeAnd, option_map, Result, Ok, Err, refl, sym, ap, subst, ◌∙◌, append_assoc, append-nil, inl, inr, if◌then◌else◌, arith}
+use Rattle.std.proofs.Common.{◌≡◌, ◌⊎◌, ℕ, ◌+◌, ◌<◌, ◌≤◌, nat_eq, Bool, true, false, ◌||◌, List, [], ◌∷◌, ◌++◌, map, length, length-append, Option, None, Some, IsSomeAnd, Result, Ok, Err, refl, sym, ap, subst, ◌∙◌, append_assoc, append-nil, inl, inr, if◌then◌else◌, arith}
 use Rattle.std.proofs.lemmas.Bool.{cases_lt, eqb-true, eq-eqb}
 use Rattle.std.proofs.lemmas.Option.{slice_get_past}
 use Rattle.std.specs.Option.{option_or}
@@ -74,10 +74,6 @@ aside_passes deeds is s e = elim is [
 pub woken_quiet : (s : ℕ) (places : List ℕ) → IsQuiet s (map woke places)
 woken_quiet s [] = (refl, refl)
 woken_quiet s (place ∷ places) = woken_quiet s places
-
-pub woken_none : (s : ℕ) (places : List ℕ) → comes s (map woke places) ≡ false
-woken_none s [] = refl
-woken_none s (place ∷ places) = woken_none s places
 
 -- a change of the clients is one of what is held
 pub held_puts : {S : Type 0} (name : S → ℕ) (old new : Clients S) (c : ℕ) (x : Option (Client S)) → Changes old new c x → Puts (held_at name old) (held_at name new) c (held_of name x)
@@ -747,15 +743,6 @@ module _ {R J : Type 0} (g : Ghosts R) (jg : JournalGhosts R J) where
 pub same-trans : (a b d : Held) → Same a b → Same b d → Same a d
 same-trans a b d x y c = y c ∙ x c
 
-marked_held : {S : Type 0} (name : S → ℕ) (one : Option (Client S)) → held_of name (option_map notes.marked one) ≡ held_of name one
-marked_held name None = refl
-marked_held name (Some client) = refl
-
--- a mark is nothing of what is held
-pub marked_same : {S : Type 0} (name : S → ℕ) (old new : Clients S) (c : ℕ) → Changes old new c (option_map notes.marked (client_at old c)) → Same (held_at name old) (held_at name new)
-marked_same name old new c changes =
-    put_same (held_at name old) (held_at name new) c (held_of name (option_map notes.marked (client_at old c))) (sym (marked_held name (client_at old c))) (held_puts name old new c (option_map notes.marked (client_at old c)) changes)
-
 -- a socket came for which there is no number, and was turned away
 pub away_hosts : {R J : Type 0} (g : Ghosts R) (jg : JournalGhosts R J) (t : ℕ) (from mid to : Option (List Deed)) (old : Desk R) (here : Place J) (stand : Standings)
     → Adds from mid (came t ∷ []) → AddsSome mid to (IsTurnedAway t) → Serves g jg (IsAtDoors 1 stand stand) None from old here to old here
@@ -820,36 +807,6 @@ pub told_office_then : (k : ℕ) (places : List ℕ) (place : ℕ) (old mid new 
 told_office_then k places place old mid new before told =
     told ∙ (ap (λ (it : Option Bool). told_flag (nat_eq place (office_place k)) it) before
     ∙ sym (told_twice (is_among (office_place k) places) (is_among (office_place k) (places ++ place ∷ [])) (nat_eq place (office_place k)) old (among_more (office_place k) places place)))
-
--- a mark tells of this connection
-pub marked_stands : {S : Type 0} (old new : Clients S) (place : ℕ) → Changes old new place (option_map notes.marked (client_at old place)) → (c : ℕ) → standing_at new c ≡ (if nat_eq place c then woken (standing_at old c) else standing_at old c)
-marked_stands {S} old new place changes c = ap (λ (o : Option (Client S)). standing_of o) (changes c) ∙ go (nat_eq place c) refl
-  where
-    marked_of : (o : Option (Client S)) → standing_of (option_map notes.marked o) ≡ woken (standing_of o)
-    marked_of None = refl
-    marked_of (Some client) = at_flag client.is_ready
-      where
-        at_flag : (is : Bool) → ready ≡ woken (if is then ready else waiting)
-        at_flag true = refl
-        at_flag false = refl
-
-    go : (same : Bool) → nat_eq place c ≡ same → standing_of (if same then option_map notes.marked (client_at old place) else client_at old c) ≡ (if same then woken (standing_of (client_at old c)) else standing_of (client_at old c))
-    go true e = marked_of (client_at old place) ∙ ap (λ (n : ℕ). woken (standing_at old n)) (eqb-true place c e)
-    go false e = refl
-
--- no connection has a place beyond the last number
-pub unmarked_stands : {S : Type 0} (clients : Clients S) (place : ℕ) → 64 ≤ place → (c : ℕ) → standing_at clients c ≡ (if nat_eq place c then woken (standing_at clients c) else standing_at clients c)
-unmarked_stands {S} clients place past c = go (nat_eq place c) refl
-  where
-    nobody_there : nat_eq place c ≡ true → standing_at clients c ≡ absent
-    nobody_there e =
-        let same = eqb-true place c e in
-        let room = clients.room in
-        ap (λ (o : Option (Option (Client S))). standing_of (client_in o)) (slice_get_past clients.slots.items c (omega (arith, past, room, same)))
-
-    go : (same : Bool) → nat_eq place c ≡ same → standing_at clients c ≡ (if same then woken (standing_at clients c) else standing_at clients c)
-    go true e = nobody_there e ∙ ap woken (sym (nobody_there e))
-    go false e = refl
 
 -- connection c is not open since it was closed, and others are not that were not
 module _ {R S J : Type 0} (g : Ghosts R) (jg : JournalGhosts R J) (name : S → ℕ) (c : ℕ) (clients next : Clients S) (old new : Desk R) where

@@ -380,9 +380,6 @@ asked_passes most a b xs some asked = record {
   kept_office = λ k is. inr (asked_office a b xs asked k ∙ woken_if (is_among (office_place k) asked.0) (a.offices k) is);
 }
 
-pub turn_passes : (c m : ℕ) (a b : Standings) (xs : List Work) → GivesTurn c m a b xs → LosesNobody m a b xs
-turn_passes c m a b xs x = x.passes
-
 -- connection c has its turns, and then more is done
 pub turn_then : (c m n most : ℕ) (a b d : Standings) (xs ys : List Work) → m + n ≤ most → GivesTurn c m a b xs → LosesNobody n b d ys → GivesTurn c most a d (xs ++ ys)
 turn_then c m n most a b d xs ys within x y = record {

@@ -3,9 +3,8 @@ use Rattle.std.proofs.Common.{◌≡◌, ℕ, ◌+◌, ℤ, pos, ◌+ℤ◌, ◌
 use Rattle.std.specs.Prelude.{not, ◌&&◌, int_lt}
 use Rattle.std.specs.declared.cmp.Ordering.{Ordering}
 use Rattle.std.specs.declared.cmp.Ordering.TheVariants as ordering
-use Rattle.std.specs.Ordering.{int_cmp, nat_cmp, is_lt, is_gt}
+use Rattle.std.specs.Ordering.{nat_cmp, is_lt, is_gt}
 use Rattle.std.specs.Cmp.Lexicographic.{slice_cmp}
-use Rattle.std.proofs.lemmas.Bool.{and_parts}
 use Rattle.std.proofs.lemmas.Int.{ints}
 use Rattle.std.proofs.lemmas.Map.Lookups.{exact_bytes}
 use Rattle.cad_feature.specs.Limits.{with_value}
@@ -13,12 +12,6 @@ use Rattle.cad_feature.specs.Values.{Datum, null, a_text, a_whole, a_flag, a_day
 use Rattle.cad_range.specs.Ranges.{lies_between}
 use Rattle.cad_extents.specs.Places.{AreMarkedAt, AreMarkedIfAny, places_of, places_of_text, places_of_whole}
 use Rattle.cad_marks.specs.declared.marks.Marks.{Marks}
-
-not_below : (n low : ℤ) → not (is_lt (int_cmp n low)) ≡ true → low ≤ℤ n
-not_below n low h = grind (arith, ints)
-
-not_above : (n high : ℤ) → not (is_gt (int_cmp n high)) ≡ true → n ≤ℤ high
-not_above n high h = grind (arith, ints)
 
 -- numbers below the next one are those below this one, and this one
 pub one_more : (marks : Marks 1024) (low : ℤ) (offset : ℕ) (number : ℤ) → number ≡ (low +ℤ pos offset) → (AreMarkedAt marks (places_of_whole number) → ⊥)
@@ -32,24 +25,6 @@ one_more marks low offset number is free before n above below marked = go (int_l
       where
         same : int_lt n number ≡ false → n ≡ number
         same e = grind (arith, ints)
-
--- if no number from one to another is marked, no marked value lies there
-pub no_whole : (marks : Marks 1024) (low high : ℤ) → ((n : ℤ) → low ≤ℤ n → n ≤ℤ high → AreMarkedAt marks (places_of_whole n) → ⊥)
-    → (d : Datum) → AreMarkedIfAny marks (places_of d) → lies_between (with_value (a_whole low)) (with_value (a_whole high)) d ≡ false
-no_whole marks low high free null m = refl
-no_whole marks low high free (a_text t) m = refl
-no_whole marks low high free (a_flag b) m = refl
-no_whole marks low high free (a_day day) m = refl
-no_whole marks low high free (a_span days) m = refl
-no_whole marks low high free (a_spot p) m = refl
-no_whole marks low high free (an_area r) m = refl
-no_whole marks low high free (a_whole n) m = go (not (is_lt (int_cmp n low)) && not (is_gt (int_cmp n high))) refl
-  where
-    go : (b : Bool) → (not (is_lt (int_cmp n low)) && not (is_gt (int_cmp n high))) ≡ b → b ≡ false
-    go false e = refl
-    go true e =
-        let both = and_parts _ _ e in
-        absurd (free n (not_below n low both.0) (not_above n high both.1) m)
 
 -- if a text is not marked, no marked value lies from it to itself
 pub no_text : (marks : Marks 1024) (s : List ℕ) → (AreMarkedAt marks (places_of_text s) → ⊥)

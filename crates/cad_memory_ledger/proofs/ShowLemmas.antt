@@ -5,7 +5,7 @@ use Rattle.std.specs.List.Sorted.{IsSortedByKey}
 use Rattle.std.specs.Ordering.{ordering_then, eq_by_cmp}
 use Rattle.std.proofs.lemmas.Int.{ints}
 use Rattle.std.proofs.Math.Seq.{drop-cons}
-use Rattle.std.proofs.lemmas.List.{length-map, map-append}
+use Rattle.std.proofs.lemmas.List.{length-map}
 use Rattle.std.proofs.lemmas.List.Elements.{All-push}
 use Rattle.cad_versions.specs.lemmas.ListLemmas.{filter_fewer, sort_by-map}
 use Rattle.cad_versions.specs.Objects.{object_number}
@@ -86,6 +86,3 @@ all_listed ls found all e each = record {
   few = rw e (omega (arith, all.few, length-map (sort_by entry_order ls) version_in, length-sort_by entry_order ls));
   each = each;
 }
-
-pub sound_more : (found more : List Entry) (copy : Entry) → more ≡ found ++ copy ∷ [] → All IsVersion (map version_in found) → IsVersion (version_in copy) → All IsVersion (map version_in more)
-sound_more found more copy added all one = subst (λ es. All IsVersion (map version_in es)) (sym added) (subst (All IsVersion) (sym (map-append version_in found (copy ∷ []))) (All-push IsVersion (map version_in found) (version_in copy) all one))

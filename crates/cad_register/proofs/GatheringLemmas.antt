@@ -192,10 +192,6 @@ some_same [] (y ∷ ys) e = absurd cc
 some_same (x ∷ xs) [] e = absurd cc
 some_same (x ∷ xs) (y ∷ ys) e = let heads : x ≡ y = cc in let tails : map Some xs ≡ map Some ys = cc in ap₂ ◌∷◌ heads (some_same xs ys tails)
 
-pub some_push : (xs : List Command) (x : Command) → map Some (xs ++ x ∷ []) ≡ map Some xs ++ Some x ∷ []
-some_push [] x = refl
-some_push (y ∷ xs) x = ap (λ l. Some y ∷ l) (some_push xs x)
-
 pub none_there : (front back : List (Option Command)) (cs : List Command) → map Some cs ≢ front ++ None ∷ back
 none_there [] back [] e = cc
 none_there [] back (c ∷ cs) e = cc

@@ -1,20 +1,13 @@
 -- The versions of each class are counted by the features of the collections.
 use denote.Param.Members.{Called, Mut}
-use Rattle.std.proofs.Common.{◌≡◌, ◌∙◌, ◌+◌, ◌≤◌, ◌<◌, ℕ, zero, suc, List, [], ◌∷◌, length, get_or, map, filter, refl, sym, ap, subst, arith}
+use Rattle.std.proofs.Common.{◌≡◌, ◌∙◌, ◌+◌, ◌<◌, ℕ, zero, suc, List, [], ◌∷◌, length, get_or, map, filter, refl, sym, ap, subst, arith}
 use Rattle.std.proofs.lemmas.List.{get_or-map, length-map, same_lists}
 use Rattle.std.specs.Array.{IsMapOf, MapsFrom}
 use Rattle.cad_versions.specs.declared.body.Class.{Class}
-use Rattle.cad_versions.specs.declared.command.Command.{Command}
 use Rattle.cad_versions.specs.VersionedObject.{VersionedObject}
-use Rattle.cad_versions.specs.AsOf.{as_of}
-use Rattle.cad_versions.specs.Refusals.{AreAccepted}
-use Rattle.cad_feature.specs.Features.{Item}
 use Rattle.cad_feature.specs.Flatten.{class_for, feature_in, features_in, is_in}
 use Rattle.cad_schema.specs.declared.collection.Collection.{Collection}
 use Rattle.cad_schema.specs.Collections.{collections}
-use Rattle.cad_history.specs.Registers.{AreRowsOf}
-use Rattle.cad_history.specs.Rows.{Rows, bare, shown_at}
-use Rattle.cad_history.specs.Accepted.{AcceptedAreFew}
 use Rattle.cad_stream.specs.declared.summary.VersionCounts.{VersionCounts}
 use Rattle.cad_stream.specs.Summaries.{AreSoMany, count_of}
 use Rattle.cad_server.specs.inner.Counts.{AreCountsOf}
@@ -44,10 +37,3 @@ module _ {F A B : Type 0} (g : Mut F (A × Unit {0}) B) (f : F) (h : A → B) (e
   mapped xs ys all = same_lists ys (map h xs) (all.long ∙ sym (length-map xs h)) (λ k e low.
       let at = mapped_at xs ys 0 (length xs) all.each k k (omega arith) (omega (arith, all.long)) e in
       at.2 ∙ (ap h (sym at.1) ∙ sym (get_or-map h xs k at.0 e (omega (arith, all.long)))))
-
--- the newest rows are as many as the features at the newest revision
-pub newest_counted : AcceptedAreFew → (rows : Rows) (newest : List Item) → ((revision : ℕ) → rows.last ≤ revision → revision < 4294967295 → shown_at revision rows ≡ map bare newest)
-    → (commands : List Command) → AreAccepted [] commands → AreRowsOf commands rows → length newest ≡ length (features_in (as_of (length commands) commands) rows.collection)
-newest_counted few rows newest shown commands accepted are =
-    let n = length commands in
-    sym (length-map newest bare) ∙ ap length (sym (shown n are.last (omega (arith, few commands accepted))) ∙ are.each n (omega arith))

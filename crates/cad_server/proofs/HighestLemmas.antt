@@ -1,7 +1,6 @@
 -- The highest number of an object, over commands and over what is stored.
 use Rattle.std.proofs.Common.{◌≡◌, ◌∙◌, ℕ, max, Bool, true, false, if◌then◌else◌, List, [], ◌∷◌, ◌++◌, length, map, take, Option, None, Some, IfSome, refl, sym, ap, ap₂, arith}
 use Rattle.std.proofs.Math.Seq.{take-length}
-use Rattle.std.proofs.lemmas.List.Sums.{fold-append}
 use Rattle.std.specs.declared.cmp.Ordering.{Ordering}
 use Rattle.std.specs.Ordering.{is_gt}
 use Rattle.cad_day.specs.declared.day.Day.{Day}
@@ -84,9 +83,6 @@ highest_stored commands =
 pub highest_listed : (commands : List Command) → highest_object (as_of (length commands) commands) ≡ highest_object (versions commands)
 highest_listed commands =
     highest_sorted by_identifier (versions (take (length commands) commands)) ∙ ap (λ cs. highest_object (versions cs)) (take-length commands)
-
-pub highest_next : (commands : List Command) (command : Command) (highest : ℕ) → highest ≡ highest_object (versions_after (versions commands) command) → highest ≡ highest_object (versions (commands ++ command ∷ []))
-highest_next commands command highest is = is ∙ ap highest_object (sym (fold-append versions_after [] commands (command ∷ [])))
 
 -- ---- as far as it is known
 

@@ -1,7 +1,7 @@
 -- What is kept stays right.
-use Rattle.std.proofs.Common.{◌≡◌, ◌≤◌, ℕ, Bool, List, [], ◌∷◌, ◌++◌, length, Contains, Option, Some, None, Result, Ok, Err, IfOk, OnOk, OnErr, sym, subst, inl, inr, arith, nat_eq}
+use Rattle.std.proofs.Common.{◌≡◌, ◌≤◌, ℕ, Bool, List, [], ◌∷◌, ◌++◌, length, Contains, Option, Some, Result, Ok, Err, IfOk, OnOk, OnErr, sym, subst, inl, inr, arith, nat_eq}
 use Rattle.std.proofs.lemmas.Bool.{eqb-true}
-use Rattle.std.specs.Option.{IfSome, option_map}
+use Rattle.std.specs.Option.{IfSome}
 use Rattle.std.specs.Result.{result_ok}
 use Rattle.std.specs.Map.{lookup}
 use Rattle.lru.specs.LruCache.{LruCache, lru_cache, promoted, put_entries}
@@ -69,15 +69,6 @@ some_of_ok P Q (Err e) o is f h = subst (λ o. IfSome o Q) (sym is) tt
 -- what holds of the value
 pub ok_of : {A : Type 0} {E : Type 0} (P : A → Type 0) (r : Result A E) (x : A) → Some x ≡ result_ok r → IfOk r P → P x
 ok_of P r x is h = some_of_ok P P r (Some x) is (λ y p. p) h
-
--- what holds of the value that is shared holds of the rows, if there are any
-pub shown_if : {X Y : Type 0} (f : X → Y) (P : Y → Type 0) (found : Option X) → IfSome found (λ x. P (f x)) → IfSome (option_map f found) P
-shown_if f P None h = tt
-shown_if f P (Some x) h = h
-
-pub given_if : {X Y : Type 0} (f : X → Y) (P : Y → Type 0) (found : Option X) → IfSome (option_map f found) P → IfSome found (λ x. P (f x))
-given_if f P None h = tt
-given_if f P (Some x) h = h
 
 -- the rows that are kept
 pub rows_kept : (commands : List Command) (kept : SnapshotCache) (rows : RegisterRows) → Some rows ≡ rows_in kept → KeepsOf commands kept → AreAllRowsOf commands rows

@@ -53,9 +53,6 @@ atom_InDay a items = ap is_atom (sym (filter.rolls-InDay a items)) ∙ fold-roll
 pub atom_InFlag : (a : FlagTerm) (items : Vec FlagTerm Global) → IsAtom (filter.InFlag a items)
 atom_InFlag a items = ap is_atom (sym (filter.rolls-InFlag a items)) ∙ fold-roll-Filter Bool atom_step (Filter-F.InFlag a items)
 
-pub atom_CompareFlag : (by : Comparison) (a b : FlagTerm) → IsAtom (filter.CompareFlag by a b)
-atom_CompareFlag by a b = ap is_atom (sym (filter.rolls-CompareFlag by a b)) ∙ fold-roll-Filter Bool atom_step (Filter-F.CompareFlag by a b)
-
 pub atom_Spatial : (by : SpatialRelation) (a b : ShapeTerm) → IsAtom (filter.Spatial by a b)
 atom_Spatial by a b = ap is_atom (sym (filter.rolls-Spatial by a b)) ∙ fold-roll-Filter Bool atom_step (Filter-F.Spatial by a b)
 

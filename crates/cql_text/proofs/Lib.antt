@@ -1,5 +1,6 @@
 mod Going
 mod LikenessLemmas
+mod EndLemmas
 mod MatchLemmas
 mod Walk
 mod PlainLemmas

@@ -14,7 +14,7 @@ by_bool false f g = g refl
 other : (c d : ℕ) → c ≢ d → (c == d) ≡ false
 other c d h = grind (arith, nat_tests)
 
-other_than : (c d : ℕ) → (c == d) ≡ false → c ≢ d
+pub other_than : (c d : ℕ) → (c == d) ≡ false → c ≢ d
 other_than c d h = grind (arith, nat_tests)
 
 plain_part : (c : ℕ) (pattern : List ℕ) → c ≢ 37 → c ≢ 95 → c ≢ 92 → pieces (c ∷ pattern) ≡ exactly c ∷ pieces pattern
