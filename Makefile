@@ -65,6 +65,7 @@ early: cases
 	scripts/check_wrong_bodies
 	scripts/crate_rows --check
 	scripts/chain
+	scripts/check_build
 
 # The whole gate. It runs:
 # - `make early`, every proof from nothing, the must-fail edits, and the tests;
