@@ -2,7 +2,8 @@
 
 ghost use Rattle.std.specs.Prelude.{◌≡◌, IfOk};
 
-use cad_mio::MioNetwork;
+use cad_event_loop::{CLIENTS_DOOR, OFFICE_DOOR, PLACES};
+use cad_mio::{MioNetwork, Places};
 use mio::net::{TcpListener, UnixListener, UnixStream};
 use std::alloc::Global;
 use std::fs::{Files, Permissions, remove_file, set_permissions, symlink_metadata};
@@ -99,7 +100,12 @@ impl Doors {
         rt: &'a C,
         alloc: Global,
     ) -> Result<MioNetwork<'a, C>> {
-        MioNetwork::new(rt, alloc, self.clients, self.office)
+        let places = Places {
+            clients_door: CLIENTS_DOOR,
+            office_door: OFFICE_DOOR,
+            count: PLACES,
+        };
+        MioNetwork::new(rt, alloc, self.clients, self.office, places)
     }
 }
 
