@@ -30,12 +30,12 @@ at_place f P h (x ∷ xs) zero l = h x
 at_place f P h (x ∷ xs) (suc i) l = at_place f P h xs i (omega arith)
 
 pub have_order : (ks : Keys) (i : ℕ) → i < length (data_of ks) → has_order (get_or (data_of ks) i null) ≡ true
-have_order (keys.Texts v) i h = at_place (λ t. a_text (chars (string_bytes (rc_value t)))) (λ d. has_order d ≡ true) (λ x. refl) v.items i h
+have_order (keys.Texts v) i h = at_place (λ t. a_text (chars (string_bytes (rc_value t)))) (λ d. has_order d ≡ true) (λ x. refl) v.texts.items i h
 have_order (keys.Wholes v) i h = at_place a_whole (λ d. has_order d ≡ true) (λ x. refl) v.items i h
 have_order (keys.Days v) i h = at_place a_day (λ d. has_order d ≡ true) (λ x. refl) v.items i h
 
 pub are_compared : (ks : Keys) (s : Scalar) (i : ℕ) → i < length (data_of ks) → scalar_kind s ≡ kind_of ks → is_some (compared (get_or (data_of ks) i null) (scalar_datum s)) ≡ true
-are_compared (keys.Texts v) (scalar.Text t) i h e = at_place (λ t. a_text (chars (string_bytes (rc_value t)))) (λ d. is_some (compared d (scalar_datum (scalar.Text t))) ≡ true) (λ x. refl) v.items i h
+are_compared (keys.Texts v) (scalar.Text t) i h e = at_place (λ t. a_text (chars (string_bytes (rc_value t)))) (λ d. is_some (compared d (scalar_datum (scalar.Text t))) ≡ true) (λ x. refl) v.texts.items i h
 are_compared (keys.Wholes v) (scalar.Whole n) i h e = at_place a_whole (λ d. is_some (compared d (a_whole n)) ≡ true) (λ x. refl) v.items i h
 are_compared (keys.Days v) (scalar.Day n) i h e = at_place a_day (λ d. is_some (compared d (a_day n)) ≡ true) (λ x. refl) v.items i h
 are_compared (keys.Texts v) (scalar.Whole n) i h e = cc

@@ -29,7 +29,7 @@ ordered_column kind.Spot values = None
 ordered_column kind.Area values = None
 
 abbrev pub data_of : Keys → List Datum
-data_of (keys.Texts v) = map (λ text. a_text (chars (string_bytes text.value))) v.items
+data_of (keys.Texts v) = map (λ text. a_text (chars (string_bytes text.value))) v.texts.items
 data_of (keys.Wholes v) = map a_whole v.items
 data_of (keys.Days v) = map a_day v.items
 

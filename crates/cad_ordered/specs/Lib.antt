@@ -3,5 +3,7 @@ pub mod Ranged
 pub mod Columns
 pub mod Indexed
 pub mod Fronts
+pub mod TwoFronts
 pub mod TextKeys
 pub mod lemmas
+pub mod inner

@@ -5,18 +5,19 @@ ghost use Rattle.cad_feature.specs.Values.{null};
 ghost use Rattle.cad_range.specs.Ranges.{compared};
 ghost use Rattle.cad_feature.specs.Limits.{scalar_datum};
 ghost use Rattle.cad_ordered.specs.Edges.{IsEdgeOf, scalar_kind};
+ghost use Rattle.cad_ordered.specs.TwoFronts.{AreFrontsOfScalar};
 ghost use Rattle.cad_ordered.specs.Columns.{data_of, kind_of, is_before, IsAscending, IsSplit, IsLowRank, IsHighRank};
 
+use crate::text_key::Fronts;
+use crate::texts::{Texts, place_between};
 use cad_day::Day;
 use cad_feature::{Edge, Scalar};
 use cad_schema::PropertyKind;
-use cql_text::compare;
 use std::cmp::Ordering;
-use std::rc::Rc;
 
 #[derive(Drop)]
 pub(crate) enum Keys {
-    Texts(Vec<Rc<String>>),
+    Texts(Texts),
     Wholes(Vec<i64>),
     Days(Vec<Day>),
 }
@@ -42,6 +43,16 @@ fn kind_of_scalar(scalar: &Scalar) -> PropertyKind
     }
 }
 
+// The numbers of the value if it is a text, and else any.
+fn fronts_of(scalar: &Scalar) -> Fronts
+    ensures { AreFrontsOfScalar result scalar.now }
+{
+    match scalar {
+        Scalar::Text(text) => Fronts::of(text.as_str().as_bytes()),
+        _ => Fronts::of(&[]),
+    }
+}
+
 impl Keys {
     pub(crate) fn kind(&self) -> PropertyKind
         ensures { result ≡ kind_of self.now }
@@ -53,13 +64,14 @@ impl Keys {
         }
     }
 
-    fn is_before(&self, rank: usize, scalar: &Scalar, upto: bool) -> bool
-        requires { rank < length (data_of self.now) }
+    fn is_before(&self, rank: usize, scalar: &Scalar, fronts: Fronts, upto: bool) -> bool
+        requires within { rank < length (data_of self.now) }
+        requires fronts { AreFrontsOfScalar fronts scalar.now }
         ensures { result ≡ is_before upto (compared (get_or (data_of self.now) rank null) (scalar_datum scalar.now)) }
     {
         match (self, scalar) {
             (Keys::Texts(keys), Scalar::Text(text)) => says_before(
-                compare(keys[rank].as_ref().as_str(), text.as_str()),
+                keys.against(rank, text.as_str(), fronts),
                 upto,
             ),
             (Keys::Wholes(keys), Scalar::Whole(number)) => says_before(
@@ -88,11 +100,12 @@ impl Keys {
         requires counted { count ≡ length (data_of self.now) }
         ensures { IsSplit upto (data_of self.now) (scalar_datum scalar.now) result }
     {
+        let fronts = fronts_of(scalar);
         let mut low = 0;
         let mut high = count;
         while low < high {
-            let middle = low + (high - low) / 2;
-            if self.is_before(middle as usize, scalar, upto) {
+            let middle = place_between(low, high);
+            if self.is_before(middle as usize, scalar, fronts, upto) {
                 low = middle + 1;
             } else {
                 high = middle;

@@ -10,5 +10,6 @@ mod key;
 mod keys;
 mod ordered;
 mod text_key;
+mod texts;
 
 pub use ordered::Ordered;

@@ -11,7 +11,8 @@ ghost use Rattle.cad_ordered.specs.Columns.{data_of, kind_of, ordered_column, Is
 
 use crate::key::ordered_keys;
 use crate::keys::Keys;
-use crate::text_key::{TextKey, texts_of};
+use crate::text_key::TextKey;
+use crate::texts::Texts;
 use cad_day::Day;
 use cad_feature::{Edge, Feature};
 use cad_positions::{Found, Ranking};
@@ -62,7 +63,7 @@ impl Ordered {
         ensures { IfOk result (λ o. o ≡ record { kind = kinds.Text; values = column place features.now }) }
     {
         let (keys, places) = ordered_keys::<TextKey>(alloc, features, place)?;
-        let texts = texts_of(alloc, keys)?;
+        let texts = Texts::of(alloc, keys)?;
         let ordered = made(alloc, features, place, Keys::Texts(texts), places)?;
         Ok(ordered)
     }

@@ -1,5 +1,5 @@
 -- Texts with different fronts are in the order of these.
-use Rattle.std.proofs.Common.{◌≡◌, ℕ, zero, suc, ◌+◌, ◌*◌, ◌^◌, ◌<◌, ◌≤◌, List, [], ◌∷◌, refl, sym, ap, ap₂, subst, ◌∙◌, arith, inl, inr, ◌⊎◌, drop, get_or, Fits, w8}
+use Rattle.std.proofs.Common.{◌≡◌, ℕ, zero, suc, ◌+◌, ◌*◌, ◌^◌, ◌<◌, ◌≤◌, List, [], ◌∷◌, refl, sym, ap, ap₂, ◌∙◌, arith, inl, inr, ◌⊎◌, drop, get_or, Fits, w8}
 use Rattle.std.specs.Ordering.{nat_cmp, ordering_then}
 use Rattle.std.specs.declared.cmp.Ordering.{Ordering}
 use Rattle.std.specs.declared.cmp.Ordering.TheVariants.{Less, Equal, Greater}
@@ -7,6 +7,8 @@ use Rattle.std.specs.Cmp.Lexicographic.{slice_cmp}
 use Rattle.std.proofs.Math.Nat.{mul-le-mul_left}
 use Rattle.cql_text.specs.CodePoints.{cmp_less, cmp_equal, cmp_greater}
 use Rattle.cad_ordered.specs.Fronts.{front_of, AreBytes}
+use Rattle.cad_ordered.specs.TwoFronts.{AreFrontsOf, fronts_cmp}
+use Rattle.cad_ordered.specs.declared.text_key.Fronts.{Fronts}
 
 pub from_fits : (xs : List ℕ) → ((i : ℕ) → Fits w8 (get_or xs i 0)) → AreBytes xs
 from_fits xs h i = let k = h i in omega (arith, k)
@@ -96,6 +98,19 @@ fronts_first (suc n) m (x ∷ xs) (y ∷ ys) a b = by (one_of x y) (fronts_first
     by (inr (inl h)) behind = ap₂ (λ o p. ordering_then o (ordering_then then (ordering_then p rest))) (same_digit (256 ^ n) x y f g h) (cmp_equal x y h) ∙ behind ∙ sym (ap (λ p. ordering_then p rest) (cmp_equal x y h))
     by (inr (inr h)) behind = ap (λ o. ordering_then o (ordering_then then (ordering_then (nat_cmp x y) rest))) (cmp_greater _ _ (digit_less (256 ^ n) y x g f h (front_small n ys (λ i. b (suc i))))) ∙ sym (ap (λ p. ordering_then p rest) (cmp_greater x y h))
 
+then_then : (a b c : Ordering) → ordering_then (ordering_then a b) c ≡ ordering_then a (ordering_then b c)
+then_then Less b c = refl
+then_then Equal b c = refl
+then_then Greater b c = refl
+
+-- the order of texts is that of their two numbers, and if these are the same, that of the texts
+pub by_fronts : (f g : Fronts) (xs ys : List ℕ) → AreFrontsOf f xs → AreFrontsOf g ys → ordering_then (fronts_cmp f g) (slice_cmp nat_cmp xs ys) ≡ slice_cmp nat_cmp xs ys
+by_fronts f g xs ys a b =
+    then_then (nat_cmp f.first g.first) (nat_cmp f.second g.second) (slice_cmp nat_cmp xs ys)
+    ∙ ap₂ (λ m n. ordering_then (nat_cmp m n) (ordering_then (nat_cmp f.second g.second) (slice_cmp nat_cmp xs ys))) a.first_is b.first_is
+    ∙ ap₂ (λ m n. ordering_then (nat_cmp (front_of 8 xs) (front_of 8 ys)) (ordering_then (nat_cmp m n) (slice_cmp nat_cmp xs ys))) a.second_is b.second_is
+    ∙ fronts_first 8 8 xs ys a.are_bytes b.are_bytes
+
 -- each power of 256 below the eighth is at most the seventh
 pub power_small : (n : ℕ) → n < 8 → 256 ^ n ≤ 72057594037927936
 power_small zero h = omega arith
@@ -108,15 +123,25 @@ power_small (suc (suc (suc (suc (suc (suc zero)))))) h = omega arith
 power_small (suc (suc (suc (suc (suc (suc (suc zero))))))) h = omega arith
 power_small (suc (suc (suc (suc (suc (suc (suc (suc n)))))))) h = absurd (omega (arith, h))
 
-pub first_byte : (bytes rest : List ℕ) (first : ℕ) → AreBytes bytes → bytes ≡ first ∷ rest → first < 256
-first_byte bytes rest first all e = subst (λ bs. get_or bs 0 0 < 256) e (all 0)
+raised : (x w f d : ℕ) → x * (256 * w) + (f * 256 + d) ≡ (x * w + f) * 256 + d
+raised x w f d = grind arith
 
-pub other_bytes : (bytes rest : List ℕ) (first : ℕ) → AreBytes bytes → bytes ≡ first ∷ rest → AreBytes rest
-other_bytes bytes rest first all e i = subst (λ bs. get_or bs (suc i) 0 < 256) e (all (suc i))
+power_next : (n : ℕ) → 256 ^ suc n ≡ 256 * 256 ^ n
+power_next n = omega arith
 
-pub front_fits : (n : ℕ) (x : ℕ) (xs : List ℕ) → n < 8 → x < 256 → AreBytes xs → x * 256 ^ n + front_of n xs < 18446744073709551616
-front_fits n x xs h k all =
+front_after : (n : ℕ) (xs : List ℕ) → front_of (suc n) xs ≡ front_of n xs * 256 + get_or xs n 0
+front_after zero [] = refl
+front_after zero (x ∷ xs) = omega arith
+front_after (suc n) [] = refl
+front_after (suc n) (x ∷ xs) = ap₂ (λ w f. x * w + f) (power_next n) (front_after n xs) ∙ raised x (256 ^ n) (front_of n xs) (get_or xs n 0)
+
+-- one byte more
+pub front_next : (n : ℕ) (xs : List ℕ) → front_of (n + 1) xs ≡ front_of n xs * 256 + get_or xs n 0
+front_next n xs = let e : n + 1 ≡ suc n = omega arith in rw e (front_after n xs)
+
+pub front_fits : (n : ℕ) (xs : List ℕ) → n < 8 → AreBytes xs → front_of n xs * 256 + get_or xs n 0 < 18446744073709551616
+front_fits n xs h all =
     let small = front_small n xs all in
-    let times = mul-le-mul_left (256 ^ n) k in
     let power = power_small n h in
-    omega (arith, small, times, power)
+    let digit = all n in
+    omega (arith, small, power, digit)

@@ -1,6 +1,0 @@
-use Rattle.std.proofs.Common.{◌≡◌, chars, map, string_bytes}
-use Rattle.cad_feature.specs.Values.{a_text}
-use Rattle.cad_ordered.proofs.text_key.texts_of.Given as goal
-
-abbrev pub invariant-loop-key : goal.invariant-loop-key
-invariant-loop-key l = map (λ text. a_text (chars (string_bytes text.value))) l.texts.items ≡ map (λ key. a_text (chars (string_bytes key.text.value))) l.yielded

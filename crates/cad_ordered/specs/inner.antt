@@ -1,0 +1,2 @@
+-- Definitions that clauses of private functions cite. No contract of a public call cites them.
+pub mod Samples
