@@ -1,5 +1,5 @@
 -- Lists in which one element is another.
-use Rattle.std.proofs.Common.{◌≡◌, ◌<◌, ◌+◌, ℕ, zero, suc, Option, Some, None, List, [], ◌∷◌, ◌++◌, length, set, get_or, ap, refl, arith}
+use Rattle.std.proofs.Common.{◌≡◌, ◌<◌, ◌+◌, ℕ, zero, suc, Option, Some, None, List, [], ◌∷◌, ◌++◌, length, set, get_or, refl, arith}
 use Rattle.cad_grid.specs.Near.{block_in}
 use Rattle.cad_feature.specs.Values.{Datum}
 use Rattle.cad_extents.specs.Extents.{any, Holds, HoldsCells}
@@ -40,11 +40,6 @@ grown P [] y d each last zero h = last
 grown P [] y d each last (suc k) h = absurd (omega (arith, h))
 grown P (x ∷ xs) y d each last zero h = each zero (omega arith)
 grown P (x ∷ xs) y d each last (suc k) h = grown (λ i e. P (suc i) e) xs y d (λ i l. each (suc i) (omega (arith, l))) last k (omega (arith, h))
-
-pub set_twice : {X : Type 0} (xs : List X) (i : ℕ) (y z : X) → set (set xs i y) i z ≡ set xs i z
-set_twice [] i y z = refl
-set_twice (x ∷ xs) zero y z = refl
-set_twice (x ∷ xs) (suc i) y z = ap (λ l. x ∷ l) (set_twice xs i y z)
 
 pub length-snoc : {X : Type 0} (xs : List X) (y : X) → length (xs ++ y ∷ []) ≡ length xs + 1
 length-snoc [] y = refl

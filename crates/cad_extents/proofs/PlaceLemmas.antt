@@ -3,7 +3,7 @@ use Rattle.std.proofs.Common.{◌≡◌, ℕ, ◌+◌, ℤ, pos, ◌+ℤ◌, ◌
 use Rattle.std.specs.Prelude.{not, ◌&&◌, int_lt}
 use Rattle.std.specs.declared.cmp.Ordering.{Ordering}
 use Rattle.std.specs.declared.cmp.Ordering.TheVariants as ordering
-use Rattle.std.specs.Ordering.{nat_cmp, is_lt, is_gt}
+use Rattle.std.specs.Ordering.{int_cmp, nat_cmp, is_lt, is_gt}
 use Rattle.std.specs.Cmp.Lexicographic.{slice_cmp}
 use Rattle.std.proofs.lemmas.Int.{ints}
 use Rattle.std.proofs.lemmas.Map.Lookups.{exact_bytes}
@@ -25,6 +25,26 @@ one_more marks low offset number is free before n above below marked = go (int_l
       where
         same : int_lt n number ≡ false → n ≡ number
         same e = grind (arith, ints)
+
+between : (n low high next : ℤ) → high <ℤ next → (not (is_lt (int_cmp n low)) && not (is_gt (int_cmp n high))) ≡ true → (low ≤ℤ n) × (n <ℤ next)
+between n low high next past e = (grind (arith, ints), grind (arith, ints))
+
+-- if no number below the next one is marked, and that is past the last one, no marked value lies between the first and the last one
+pub no_number : (marks : Marks 1024) (low high : ℤ) (offset : ℕ) (number : ℤ) → number ≡ (low +ℤ pos offset) → high <ℤ number
+    → ((n : ℤ) → low ≤ℤ n → n <ℤ (low +ℤ pos offset) → AreMarkedAt marks (places_of_whole n) → ⊥)
+    → (d : Datum) → AreMarkedIfAny marks (places_of d) → lies_between (with_value (a_whole low)) (with_value (a_whole high)) d ≡ false
+no_number marks low high offset number is past free null m = refl
+no_number marks low high offset number is past free (a_text t) m = refl
+no_number marks low high offset number is past free (a_flag b) m = refl
+no_number marks low high offset number is past free (a_day day) m = refl
+no_number marks low high offset number is past free (a_span days) m = refl
+no_number marks low high offset number is past free (a_spot p) m = refl
+no_number marks low high offset number is past free (an_area r) m = refl
+no_number marks low high offset number is past free (a_whole n) m = go (not (is_lt (int_cmp n low)) && not (is_gt (int_cmp n high))) refl
+  where
+    go : (b : Bool) → (not (is_lt (int_cmp n low)) && not (is_gt (int_cmp n high))) ≡ b → b ≡ false
+    go false e = refl
+    go true e = let h = between n low high (low +ℤ pos offset) (subst (λ k. high <ℤ k) is past) e in absurd (free n h.0 h.1 m)
 
 -- if a text is not marked, no marked value lies from it to itself
 pub no_text : (marks : Marks 1024) (s : List ℕ) → (AreMarkedAt marks (places_of_text s) → ⊥)

@@ -1,5 +1,5 @@
--- Places of values among marks, and values of which the places are marked (own profile). Each value has two places. Values with the same places are not told apart.
-use Rattle.std.specs.Prelude.{ℕ, ℤ, pos, ◌<◌, ◌*◌, ◌/◌, ◌%◌, unsigned_abs, List, Option, Some, None}
+-- Places of values among marks, and values of which the places are marked (own profile). Each value has four places by one hash of it: double hashing, as in Kirsch and Mitzenmacher, "Less hashing, same performance". Values with the same places are not told apart.
+use Rattle.std.specs.Prelude.{ℕ, ℤ, pos, ◌<◌, ◌+◌, ◌*◌, ◌/◌, ◌%◌, unsigned_abs, List, Option, Some, None}
 use Rattle.std.specs.Int.{int_rem_euclid}
 use Rattle.cad_feature.specs.Values.{Datum, a_text, a_whole}
 use Rattle.cql_text.specs.Hashes.{hash_of_text}
@@ -9,9 +9,13 @@ use Rattle.cad_extents.specs.declared.places.Places.{Places}
 use Rattle.cad_extents.specs.declared.noted.NotedValues.{NotedValues}
 use Rattle.cad_extents.specs.declared.noted.NotedValues.TheVariants as noted
 
+-- from a first place on, by equal steps
+abbrev pub places_from : ℕ → ℕ → Places
+places_from first step = record { first = first; second = (first + step) % 65536; third = (first + 2 * step) % 65536; fourth = (first + 3 * step) % 65536 }
+
 -- by a hash
 abbrev pub places_by : ℕ → Places
-places_by hash = record { first = hash % 65536; second = hash / 65536 }
+places_by hash = places_from (hash % 65536) (hash / 65536)
 
 abbrev pub residue : ℤ → ℕ
 residue n = unsigned_abs (int_rem_euclid n (pos 4294967291))
@@ -33,11 +37,11 @@ places_of d = None
 
 -- the places are among the marks
 abbrev pub AreWithin : Places → Type 0
-AreWithin p = (p.first < 65536) × (p.second < 65536)
+AreWithin p = (p.first < 65536) × (p.second < 65536) × (p.third < 65536) × (p.fourth < 65536)
 
--- both are marked
+-- all four are marked
 abbrev pub AreMarkedAt : Marks 1024 → Places → Type 0
-AreMarkedAt m p = IsMarked m p.first × IsMarked m p.second
+AreMarkedAt m p = IsMarked m p.first × IsMarked m p.second × IsMarked m p.third × IsMarked m p.fourth
 
 -- if there are places, they are marked
 abbrev pub AreMarkedIfAny : Marks 1024 → Option Places → Type 0

@@ -1,6 +1,6 @@
 //! Which cells the shapes of a property touch.
 
-ghost use Rattle.std.specs.Prelude.{◌≡◌, IfOk, Option, Some, false};
+ghost use Rattle.std.specs.Prelude.{◌≡◌, IfOk, OnOk, Option, Some, false};
 ghost use Rattle.cad_grid.specs.Blocks.{Block};
 ghost use Rattle.cad_grid.specs.Counted.{block_at};
 ghost use Rattle.cad_grid.specs.Near.{block_in, is_candidate};
@@ -24,36 +24,32 @@ pub(crate) enum CellExtent {
 }
 
 impl CellExtent {
-    /// The extent of these shapes and one with these cells. An error means out of memory.
-    fn with_cells(self, alloc: Global, cells: Cells) -> Result<CellExtent, AllocError>
-        ensures own { IfOk result (λ all. (b : Option Block) → HoldsCells self b → HoldsCells all b) }
-        ensures more { IfOk result (λ all. HoldsCells all (Some (block_at cells))) }
+    /// Takes in a shape with these cells. An error means out of memory.
+    fn widen_to(&mut self, alloc: Global, cells: Cells) -> Result<(), AllocError>
+        ensures own { OnOk result ((b : Option Block) → HoldsCells self.old b → HoldsCells self.new b) }
+        ensures more { OnOk result (HoldsCells self.new (Some (block_at cells))) }
     {
         if cells.is_wide() {
-            return Ok(CellExtent::Any);
+            *self = CellExtent::Any;
+            return Ok(());
         }
         match self {
-            CellExtent::Empty => {
-                let covered = Covered::of(alloc, cells)?;
-                Ok(CellExtent::Within(covered))
-            }
-            CellExtent::Within(covered) => Ok(CellExtent::Within(covered.with(cells))),
-            CellExtent::Any => Ok(CellExtent::Any),
+            CellExtent::Empty => *self = CellExtent::Within(Covered::of(alloc, cells)?),
+            CellExtent::Within(covered) => covered.widen(cells),
+            CellExtent::Any => {}
         }
+        Ok(())
     }
 
-    /// The extent of these shapes and one more value, which may be a shape. An error means out of memory.
-    pub(crate) fn with(self, alloc: Global, value: &Value) -> Result<CellExtent, AllocError>
-        ensures own { IfOk result (λ all. (b : Option Block) → HoldsCells self b → HoldsCells all b) }
-        ensures more { IfOk result (λ all. HoldsCells all (block_in (datum_of value.now))) }
+    /// Takes in one more value, which may be a shape. An error means out of memory.
+    pub(crate) fn widen(&mut self, alloc: Global, value: &Value) -> Result<(), AllocError>
+        ensures own { OnOk result ((b : Option Block) → HoldsCells self.old b → HoldsCells self.new b) }
+        ensures more { OnOk result (HoldsCells self.new (block_in (datum_of value.now))) }
     {
-        match bounds_of(value) {
-            None => Ok(self),
-            Some(bounds) => {
-                let all = self.with_cells(alloc, Cells::of(bounds))?;
-                Ok(all)
-            }
+        if let Some(bounds) = bounds_of(value) {
+            self.widen_to(alloc, Cells::of(bounds))?;
         }
+        Ok(())
     }
 
     /// The same in memory of its own. An error means out of memory.

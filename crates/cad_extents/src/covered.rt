@@ -44,18 +44,14 @@ impl Covered {
         })
     }
 
-    /// What these shapes and one with these cells touch.
-    pub(crate) fn with(self, cells: Cells) -> Covered
+    /// Takes in a shape with these cells.
+    pub(crate) fn widen(&mut self, cells: Cells)
         requires { is_wide (block_at cells) ≡ false }
-        ensures own { (b : Block) → IsCovered self b → IsCovered result b }
-        ensures more { IsCovered result (block_at cells) }
+        ensures own { (b : Block) → IsCovered self.old b → IsCovered self.new b }
+        ensures more { IsCovered self.new (block_at cells) }
     {
-        let mut marks = self.marks;
-        mark_squares(&mut marks, cells);
-        Covered {
-            block: around(self.block, cells),
-            marks,
-        }
+        self.block = around(self.block, cells);
+        mark_squares(&mut self.marks, cells);
     }
 
     /// The same in memory of its own. An error means out of memory.

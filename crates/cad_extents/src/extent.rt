@@ -1,6 +1,6 @@
 //! The extent of one property.
 
-ghost use Rattle.std.specs.Prelude.{◌≡◌, IfOk, false};
+ghost use Rattle.std.specs.Prelude.{◌≡◌, IfOk, OnOk, false};
 ghost use Rattle.cad_grid.specs.Counted.{block_at};
 ghost use Rattle.cad_grid.specs.Near.{block_in, is_candidate};
 ghost use Rattle.cad_extents.specs.Extents.{Holds};
@@ -32,18 +32,15 @@ pub(crate) const EMPTY: Extent = Extent {
 };
 
 impl Extent {
-    /// The extent of these values and one more. An error means out of memory.
-    fn with(self, alloc: Global, value: &Value) -> Result<Extent, AllocError>
-        ensures own { IfOk result (λ all. (d : Datum) → Holds self d → Holds all d) }
-        ensures more { IfOk result (λ all. Holds all (datum_of value.now)) }
+    /// Takes in one more value. An error means out of memory.
+    fn widen(&mut self, alloc: Global, value: &Value) -> Result<(), AllocError>
+        ensures own { OnOk result ((d : Datum) → Holds self.old d → Holds self.new d) }
+        ensures more { OnOk result (Holds self.new (datum_of value.now)) }
     {
-        let noted = self.noted.with(alloc, value)?;
-        let cells = self.cells.with(alloc, value)?;
-        Ok(Extent {
-            values: self.values.with(value),
-            noted,
-            cells,
-        })
+        self.values = self.values.with(value);
+        self.noted.widen(alloc, value)?;
+        self.cells.widen(alloc, value)?;
+        Ok(())
     }
 
     /// The same in memory of its own. An error means out of memory.
@@ -58,23 +55,20 @@ impl Extent {
         })
     }
 
-    /// The extent of these values and the feature's value at the place, if it has one. An error means out of memory.
-    pub(crate) fn with_value(
-        self,
+    /// Takes in the feature's value at the place, if it has one. An error means out of memory.
+    pub(crate) fn widen_at(
+        &mut self,
         alloc: Global,
         feature: &Feature,
         place: usize,
-    ) -> Result<Extent, AllocError>
-        ensures own { IfOk result (λ all. (d : Datum) → Holds self d → Holds all d) }
-        ensures more { IfOk result (λ all. Holds all (datum_at feature.now place)) }
+    ) -> Result<(), AllocError>
+        ensures own { OnOk result ((d : Datum) → Holds self.old d → Holds self.new d) }
+        ensures more { OnOk result (Holds self.new (datum_at feature.now place)) }
     {
-        match feature.value(place) {
-            None => Ok(self),
-            Some(value) => {
-                let all = self.with(alloc, value)?;
-                Ok(all)
-            }
+        if let Some(value) = feature.value(place) {
+            self.widen(alloc, value)?;
         }
+        Ok(())
     }
 
     /// Whether such a value may lie in the range.

@@ -11,7 +11,6 @@ use crate::extent::{EMPTY, Extent};
 use cad_feature::{Feature, Range};
 use cad_grid::Cells;
 use std::alloc::{AllocError, Global};
-use std::mem::replace;
 
 /// Between which values those of some features lie, property by property in the order of the schema.
 #[derive(Debug, Drop)]
@@ -29,8 +28,7 @@ fn widen_at(
     requires { place < length extents.old.items }
     ensures { OnOk result ((e : Extent) × (extents.new.items ≡ set extents.old.items place e) × ((d : Datum) → Holds (extent_at extents.old.items place) d → Holds e d) × Holds e (datum_at feature.now place)) }
 {
-    let own = replace(&mut extents[place], EMPTY);
-    extents[place] = own.with_value(alloc, feature, place)?;
+    extents[place].widen_at(alloc, feature, place)?;
     Ok(())
 }
 

@@ -4,8 +4,8 @@
 //!   squares of eight by eight cells its shapes may touch; no feature has a value outside of them.
 //!
 //! Of the parcels 3 and 7, only 3 has an area, 390. So no feature has an `object` from 8 to 9, an `area` above 390, or a shape that
-//! touches no square that a shape of either touches. None has the `object` 5: its two places among 65,536 are not marked. The extents do not say
-//! whether a feature has a `label` between two given ones.
+//! touches no square that a shape of either touches. None has the `object` 5: of its four places among 65,536, at least one is not
+//! marked. The extents do not say whether a feature has a `label` between two given ones.
 #![tactic(auto)]
 
 mod cells;

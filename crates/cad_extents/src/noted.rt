@@ -1,10 +1,10 @@
 //! Which values of a property may be there, by the marks of their places.
 
-ghost use Rattle.std.specs.Prelude.{◌≡◌, ◌↔◌, ℕ, ℤ, ◌≤ℤ◌, IfOk, IsTrue, Option, Some, chars, false};
+ghost use Rattle.std.specs.Prelude.{◌≡◌, ◌↔◌, ℕ, IfOk, IsTrue, OnOk, Option, Some, chars, false};
 ghost use Rattle.cad_feature.specs.Limits.{limit_of, with_value};
-ghost use Rattle.cad_feature.specs.Values.{Datum, a_text, datum_of};
+ghost use Rattle.cad_feature.specs.Values.{Datum, a_text, a_whole, datum_of};
 ghost use Rattle.cad_range.specs.Ranges.{lies_between};
-ghost use Rattle.cad_extents.specs.Places.{AreMarkedAt, AreMarkedIfAny, AreWithin, IsNoted, IsNotedAt, places_of as places_of_datum, places_of_whole as whole_places};
+ghost use Rattle.cad_extents.specs.Places.{AreMarkedAt, AreMarkedIfAny, AreWithin, IsNoted, IsNotedAt, places_of as places_of_datum};
 ghost use Rattle.cad_extents.specs.declared.places.Places.{Places as PlacesOf};
 ghost use Rattle.cad_marks.specs.Marked.{IsMarked};
 
@@ -28,44 +28,46 @@ pub(crate) enum NotedValues {
     Any,
 }
 
-/// Whether both places are marked.
-fn has_both(marks: &Marks<WORDS>, places: Places) -> bool
+/// Whether all four places are marked.
+fn has_all(marks: &Marks<WORDS>, places: Places) -> bool
     requires { AreWithin places }
     ensures { IsTrue result ↔ AreMarkedAt marks.now places }
 {
-    marks.has(places.first) && marks.has(places.second)
+    marks.has(places.first)
+        && marks.has(places.second)
+        && marks.has(places.third)
+        && marks.has(places.fourth)
 }
 
-/// Marks both places.
-fn set_both(marks: &mut Marks<WORDS>, places: Places)
+/// Marks all four places.
+fn set_all(marks: &mut Marks<WORDS>, places: Places)
     requires { AreWithin places }
     ensures own { (k : ℕ) → IsMarked marks.old k → IsMarked marks.new k }
     ensures more { AreMarkedAt marks.new places }
 {
     marks.set(places.first);
     marks.set(places.second);
+    marks.set(places.third);
+    marks.set(places.fourth);
 }
 
-/// The marks and those of a value. Marks that nobody else has are not copied. An error means out of memory.
-fn with_marks(
-    alloc: Global,
-    marks: Rc<Marks<WORDS>>,
-    places: Places,
-) -> Result<Rc<Marks<WORDS>>, AllocError>
+/// Marks the places of one more value. Marks that others share are copied first. An error means out of memory.
+fn mark(alloc: Global, marks: &mut Rc<Marks<WORDS>>, places: Places) -> Result<(), AllocError>
     requires { AreWithin places }
-    ensures own { IfOk result (λ all. (k : ℕ) → IsMarked marks.value k → IsMarked all.value k) }
-    ensures more { IfOk result (λ all. AreMarkedAt all.value places) }
+    ensures own { OnOk result ((k : ℕ) → IsMarked marks.old.value k → IsMarked marks.new.value k) }
+    ensures more { OnOk result (AreMarkedAt marks.new.value places) }
 {
-    if has_both(&marks, places) {
-        return Ok(marks);
+    if has_all(marks, places) {
+        return Ok(());
     }
-    let mut own = match Rc::try_unwrap(marks) {
-        Ok(own) => own,
-        Err(shared) => shared.copy(alloc)?,
-    };
-    set_both(&mut own, places);
-    let marks = Rc::new(alloc, own)?;
-    Ok(marks)
+    if let Some(own) = Rc::get_mut(marks) {
+        set_all(own, places);
+        return Ok(());
+    }
+    let mut copy = marks.copy(alloc)?;
+    set_all(&mut copy, places);
+    *marks = Rc::new(alloc, copy)?;
+    Ok(())
 }
 
 /// The marks of one value. An error means out of memory.
@@ -74,14 +76,14 @@ fn marks_of(alloc: Global, places: Places) -> Result<Rc<Marks<WORDS>>, AllocErro
     ensures { IfOk result (λ all. AreMarkedAt all.value places) }
 {
     let mut marks = Marks::none(alloc)?;
-    set_both(&mut marks, places);
+    set_all(&mut marks, places);
     let marks = Rc::new(alloc, marks)?;
     Ok(marks)
 }
 
 /// Whether the places of a number from `low` to `high` are marked. If there are many numbers, it may return true without a search.
 fn has_between(marks: &Marks<WORDS>, low: i64, high: i64) -> bool
-    ensures { result ≡ false → (n : ℤ) → low ≤ℤ n → n ≤ℤ high → AreMarkedAt marks.now (whole_places n) → ⊥ }
+    ensures { result ≡ false → (d : Datum) → AreMarkedIfAny marks.now (places_of_datum d) → lies_between (with_value (a_whole low)) (with_value (a_whole high)) d ≡ false }
 {
     for offset in 0..MOST_NUMBERS {
         let Some(number) = low.checked_add(i64::from(offset)) else {
@@ -90,7 +92,7 @@ fn has_between(marks: &Marks<WORDS>, low: i64, high: i64) -> bool
         if number > high {
             return false;
         }
-        if has_both(marks, places_of_whole(number)) {
+        if has_all(marks, places_of_whole(number)) {
             return true;
         }
     }
@@ -101,7 +103,7 @@ fn has_between(marks: &Marks<WORDS>, low: i64, high: i64) -> bool
 fn has_text(marks: &Marks<WORDS>, low: &str, high: &str) -> bool
     ensures { result ≡ false → (d : Datum) → AreMarkedIfAny marks.now (places_of_datum d) → lies_between (with_value (a_text (chars low.now))) (with_value (a_text (chars high.now))) d ≡ false }
 {
-    low != high || has_both(marks, places_of_text(low))
+    low != high || has_all(marks, places_of_text(low))
 }
 
 /// Whether a value with marked places may lie between the ends.
@@ -120,37 +122,29 @@ fn may_be_between(marks: &Marks<WORDS>, low: &Edge, high: &Edge) -> bool
 }
 
 impl NotedValues {
-    /// These values and one with these places. An error means out of memory.
-    fn with_places(self, alloc: Global, places: Places) -> Result<NotedValues, AllocError>
+    /// Notes a value with these places. An error means out of memory.
+    fn note(&mut self, alloc: Global, places: Places) -> Result<(), AllocError>
         requires { AreWithin places }
-        ensures own { IfOk result (λ all. (p : Option PlacesOf) → IsNotedAt self p → IsNotedAt all p) }
-        ensures more { IfOk result (λ all. IsNotedAt all (Some places)) }
+        ensures own { OnOk result ((p : Option PlacesOf) → IsNotedAt self.old p → IsNotedAt self.new p) }
+        ensures more { OnOk result (IsNotedAt self.new (Some places)) }
     {
         match self {
-            NotedValues::Empty => {
-                let marks = marks_of(alloc, places)?;
-                Ok(NotedValues::Marked(marks))
-            }
-            NotedValues::Marked(marks) => {
-                let marks = with_marks(alloc, marks, places)?;
-                Ok(NotedValues::Marked(marks))
-            }
-            NotedValues::Any => Ok(NotedValues::Any),
+            NotedValues::Empty => *self = NotedValues::Marked(marks_of(alloc, places)?),
+            NotedValues::Marked(marks) => mark(alloc, marks, places)?,
+            NotedValues::Any => {}
         }
+        Ok(())
     }
 
-    /// These values and one more. An error means out of memory.
-    pub(crate) fn with(self, alloc: Global, value: &Value) -> Result<NotedValues, AllocError>
-        ensures own { IfOk result (λ all. (d : Datum) → IsNoted self d → IsNoted all d) }
-        ensures more { IfOk result (λ all. IsNoted all (datum_of value.now)) }
+    /// Takes in one more value. An error means out of memory.
+    pub(crate) fn widen(&mut self, alloc: Global, value: &Value) -> Result<(), AllocError>
+        ensures own { OnOk result ((d : Datum) → IsNoted self.old d → IsNoted self.new d) }
+        ensures more { OnOk result (IsNoted self.new (datum_of value.now)) }
     {
-        match places_of(value) {
-            None => Ok(self),
-            Some(places) => {
-                let all = self.with_places(alloc, places)?;
-                Ok(all)
-            }
+        if let Some(places) = places_of(value) {
+            self.note(alloc, places)?;
         }
+        Ok(())
     }
 
     /// The same values. The marks are shared.

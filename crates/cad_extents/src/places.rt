@@ -19,23 +19,31 @@ const MODULUS: u32 = 4_294_967_291;
 /// What a number is multiplied by for its hash.
 const FACTOR: u64 = 16_777_619;
 
-/// The two places of a value. They are below 65,536.
+/// The four places of a value. They are below 65,536, and some may be the same.
 #[derive(Debug, Clone, Copy)]
 pub(crate) struct Places {
-    /// The one.
+    /// The first.
     pub first: u32,
-    /// The other; the two may be the same.
+    /// The one a step behind it.
     pub second: u32,
+    /// The one two steps behind it.
+    pub third: u32,
+    /// The one three steps behind it.
+    pub fourth: u32,
 }
 
-/// The places by a hash.
+/// The places by a hash. Its low 16 bits are the first place, and its high 16 bits the step from each place to the next.
 fn places_by(hash: u32) -> Places
     ensures places { result ≡ places_by_of hash }
     ensures within { AreWithin result }
 {
+    let first = hash % PLACES;
+    let step = hash / PLACES;
     Places {
-        first: hash % PLACES,
-        second: hash / PLACES,
+        first,
+        second: (first + step) % PLACES,
+        third: (first + 2 * step) % PLACES,
+        fourth: (first + 3 * step) % PLACES,
     }
 }
 
