@@ -81,9 +81,9 @@ fn later_of(after: Option<(ObjectId, u32)>, last: (ObjectId, u32)) -> (ObjectId,
 }
 
 impl<'a, 'p> SegmentsLeft<'a, 'p> {
-    ghost use Rattle.std.specs.Prelude.{◌≡◌, [], ◌∷◌, filter, IfOk, IfErr, MatchOption, Some};
+    ghost use Rattle.std.specs.Prelude.{◌≡◌, ◌<◌, [], ◌∷◌, filter, length, IfOk, IfErr, MatchOption, Some, true, false};
     ghost use Rattle.cad_layer.specs.Segments.{AreSegments, joined};
-    ghost use Rattle.cad_run.specs.SegmentLeft.{segments_left};
+    ghost use Rattle.cad_run.specs.SegmentLeft.{opened_left, segments_left};
     ghost use Rattle.cad_run.specs.Slices.{identifier, later};
     ghost use Rattle.cad_run.specs.Sought.{is_sought};
 
@@ -101,6 +101,25 @@ impl<'a, 'p> SegmentsLeft<'a, 'p> {
         }
     }
 
+    /// Opens the next segment, or returns false if there is none. An error means out of memory, and all is left as it was. Few calls of
+    /// `next` come here, so its large local variables are no part of `next`.
+    #[inline(never)]
+    fn open_next(&mut self) -> Result<bool, AllocError>
+        requires closed { opened_left self.old.opened ≡ [] }
+        requires apart { AreSegments self.old.unopened.now }
+        ensures apart { AreSegments self.new.unopened.now }
+        ensures left { segments_left self.new ≡ segments_left self.old }
+        ensures last { IfOk result (λ is_open. is_open ≡ false → (opened_left self.new.opened ≡ []) × (self.new.unopened.now ≡ [])) }
+        ensures fewer { IfOk result (λ is_open. is_open ≡ true → length self.new.unopened.now < length self.old.unopened.now) }
+    {
+        let Some((segment, behind)) = self.unopened.split_first() else {
+            return Ok(false);
+        };
+        self.opened = open(self.alloc, self.sought, self.after, segment)?;
+        self.unopened = behind;
+        Ok(true)
+    }
+
     /// Takes the first candidate. An error means out of memory, and all is left as it was.
     pub(crate) fn next(&mut self) -> Result<Option<&'a Feature>, AllocError>
         requires { AreSegments self.old.unopened.now }
@@ -112,11 +131,9 @@ impl<'a, 'p> SegmentsLeft<'a, 'p> {
             if let Some(feature) = take_first(&mut self.opened) {
                 return Ok(Some(feature));
             }
-            let Some((segment, behind)) = self.unopened.split_first() else {
+            if !self.open_next()? {
                 return Ok(None);
-            };
-            self.opened = open(self.alloc, self.sought, self.after, segment)?;
-            self.unopened = behind;
+            }
         }
     }
 
