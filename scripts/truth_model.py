@@ -260,21 +260,47 @@ def marks(property_, text):
     return 1 << (at % 64 + property_ * 23) % 64 | 1 << (at // 64 % 64 + property_ * 41) % 64
 
 
-def may_fold(path, text):
-    """The features of which the marks do not exclude that this text is their value, with its case folded."""
+def end_marks(property_, first, last):
+    """The marks of the characters with which a folded text begins and ends, those that are known."""
+    return (1 << (ord(first) + property_ * 11) % 64 if first else 0) | (1 << (ord(last) * 5 + property_ * 43) % 64 if last else 0)
+
+
+def ends_of(pattern):
+    """The characters with which each text begins and ends that is like the pattern, `None` if these may be any."""
+    parts, at = [], 0
+    while at < len(pattern):
+        is_escape = pattern[at] == "\\" and at + 1 < len(pattern)
+        at += is_escape
+        parts.append(pattern[at] if is_escape or pattern[at] not in "%_" else None)
+        at += 1
+    return (parts[0], parts[-1]) if parts else (None, None)
+
+
+def may_have(path, asked_of, marks_of):
+    """The features of whose texts the marks do not exclude one that has the marks which are asked."""
     collection, _, name = path.partition("/")
     names = list(filter_model.SCHEMAS.get(collection, ()))
     if name not in names:
         return "no property"
-    asked, found = marks(names.index(name), text), ["may"]
+    asked, found = asked_of(names.index(name)), ["may"]
     for x in FEATURES.get(collection, []):
         own = 0
         for property_, its_name in enumerate(names):
             if isinstance(x[its_name], str):
-                own |= marks(property_, x[its_name].casefold())
+                own |= marks_of(property_, x[its_name].casefold())
         if own & asked == asked:
             found.append(f"{x['object']}.{x['number']}")
     return " ".join(found)
+
+
+def may_fold(path, text):
+    """The features of which the marks do not exclude that this text is their value, with its case folded."""
+    return may_have(path, lambda property_: marks(property_, text), marks)
+
+
+def may_fold_like(path, pattern):
+    """The features of which the marks do not exclude that their value is like the pattern, with its case folded."""
+    return may_have(path, lambda property_: end_marks(property_, *ends_of(pattern)), lambda property_, text: end_marks(property_, text[:1], text[-1:]))
 
 
 def main():
@@ -289,6 +315,9 @@ def main():
         elif name == b"folds":
             path, _, text = rest.decode().partition(" ")
             print(may_fold(path, text))
+        elif name == b"likes":
+            path, _, pattern = rest.decode().partition(" ")
+            print(may_fold_like(path, pattern))
         else:
             print(answer(name.decode(), rest))
 

@@ -16,7 +16,8 @@ PLANE = (-EDGE, -EDGE, EDGE, EDGE)
 SQUARE, FIRST_CELL = 8, -1_525_879
 # Squares this many columns or rows apart share a mark. A box that reaches over more is compared with the block alone.
 MARKS = 64
-# A number, or the characters of a text one after the other, are multiplied by this, by this modulus: the hash. It gives two places.
+# A number, or the characters of a text one after the other, are multiplied by this, by this modulus: the hash. Its
+# remainder by the number of places is the first of four places, and its quotient is how far each is behind the one before.
 PLACES, FACTOR, MODULUS = 65_536, 16_777_619, 4_294_967_291
 # Numbers are looked up if they are fewer than this, and none of them is the greatest of 64 bits.
 MOST_NUMBERS = 64
@@ -97,14 +98,15 @@ def may_be_near(shapes, asked):
 
 
 def places(value):
-    """The two marks of a number or of a text."""
+    """The four marks of a number or of a text."""
     if isinstance(value, int):
         at = value * FACTOR % MODULUS
     else:
         at = 0
         for character in value:
             at = (at * FACTOR + ord(character)) % MODULUS
-    return {at % PLACES, at // PLACES}
+    step, first = divmod(at, PLACES)
+    return {(first + times * step) % PLACES for times in range(4)}
 
 
 def looked_up(low, high):
@@ -312,10 +314,14 @@ def noted_values():
         yield range_case("area", [5, None, 7], *same(number))
     for number in [0, 3, 65_535, 65_536, 65_538, 65_539, 65_540, 131_075, 200_000, 4_294_967_295]:
         yield range_case("area", [3, 200_000], *same(number))
-    # numbers with places of 3 and of the other one, and one with the hash of 3
-    for number in [4, 265_966_351, 951_206_339, 1_229_869_469, 1_633_888_434, 1_899_854_782, 4_294_967_294]:
+    # one with the hash of 4,294,967,295, one with the places of 3 in the opposite order, two with one of these alone, two with three of them
+    # and another one, and one with the hash of 3
+    for number in [4, 280_078_517, 874_079_739, 3_497_068_250, 835_989_393, 3_458_977_904, 4_294_967_294]:
         yield range_case("area", [3, 4_294_967_295], *same(number))
         yield range_case("area", [2, None, 4_294_967_295], *same(number))
+    # two with a place of each of four others, and four where no other has the first, the second, the third or the fourth place
+    for number in [73_156, 535_020, 1_119_042, 20_450_965, 50_852_667, 3_293_553]:
+        yield range_case("area", list(range(1, 151)), *same(number))
     yield range_case("area", [3, 60_000], *same(65_539))
     yield range_case("area", [65_535, 4_294_967_295], *same(131_071))
     yield range_case("area", [0, 4_294_967_295], *same(131_072))
@@ -332,8 +338,8 @@ def noted_values():
         yield range_case("area", [5, 7], *same(number))
     for label in ["a", "b", "c", "A", "ab", "ba", "\u00e9", "\U0010ffff"]:
         yield range_case("label", ["a", "b", "ab"], *same(label))
-    # a label with the hash of "ba", and three with places of "ba" or of "z"
-    for label in ["ba", "ea\U000cb051", "vy\U00076882", "ea\U000c77aa", "vy\U00072fdb", "ab", "b"]:
+    # a label with the hash of "ba", one with its places in the opposite order, and two with three of them and another one
+    for label in ["ba", "ea\U000cb051", "fw\U00053937", "ea\U000c4e51", "ea\U000d1251", "ab", "b"]:
         yield range_case("label", ["ba", "z"], *same(label))
         yield range_case("label", ["ba"], *same(label))
         yield range_case("label", ["ea\U000cb051", "z"], *same(label))

@@ -1,79 +1,117 @@
--- Marks of texts with their case folded: which ones the values of a feature have, and that a text without them is another one.
-use Rattle.std.proofs.Common.{◌≡◌, ◌∙◌, ◌⊎◌, ◌==◌, ℕ, zero, suc, ◌+◌, ◌<◌, ◌≤◌, min, false, List, [], ◌∷◌, length, map, get_or, slice_get, Some, option_map, bit_and, bit_or, inl, inr, refl, ap, sym, subst, arith}
+-- Marks of texts with their case folded: which ones the values of a feature have, and which text cannot be there without them.
+use Rattle.std.proofs.Common.{◌≡◌, ◌∙◌, ◌⊎◌, ℕ, zero, suc, ◌+◌, ◌<◌, ◌≤◌, min, false, List, [], ◌∷◌, length, map, get_or, slice_get, Some, option_map, bit_or, inl, inr, refl, ap, sym, subst, arith}
+use Rattle.std.specs.Prelude.{◌↔◌, Bool, IfSome, IsTrue, None, Option}
 use Rattle.std.specs.Int.{bit_at}
-use Rattle.std.proofs.lemmas.Bool.Decides.{nat_tests}
 use Rattle.std.proofs.lemmas.List.{length-map}
 use Rattle.std.proofs.lemmas.Nat.Bits.{bit_at_and, bit_at_or, same_from_bits}
 use Rattle.std.proofs.lemmas.Option.{same_Some, slice_get-map, slice_get_read, slice_get_within}
 use Rattle.caseless.specs.Caseless.{default_case_fold}
-use Rattle.cad_feature.specs.Folded.{AreMarked, HasMarks, marks_of_folded}
+use Rattle.cad_feature.specs.Marks.{AreMarked, AreMarksOf, HasBits, HasMarksOf, Includes}
 use Rattle.cad_feature.specs.Values.{Datum, null, a_text, datum_of}
+use Rattle.cad_feature.specs.declared.marks.TextMarks.{TextMarks}
 use Rattle.cad_feature.specs.declared.value.Value.{Value}
 
-marks_same : (marks : ℕ) → HasMarks marks marks
-marks_same marks = same_from_bits _ _ (λ i. bit_at_and marks marks i ∙ omega arith)
+-- ---- bits
 
-marks_added : (all marks : ℕ) → HasMarks (bit_or all marks) marks
-marks_added all marks = same_from_bits _ _ (λ i. bit_at_and (bit_or all marks) marks i ∙ ap (λ b. min b (bit_at marks i)) (bit_at_or all marks i) ∙ omega arith)
+bits_same : (bits : ℕ) → HasBits bits bits
+bits_same bits = same_from_bits _ _ (λ i. bit_at_and bits bits i ∙ omega arith)
 
-marks_kept : (all more marks : ℕ) → HasMarks all marks → HasMarks (bit_or all more) marks
-marks_kept all more marks has = same_from_bits _ _ (λ i.
-    let own : min (bit_at all i) (bit_at marks i) ≡ bit_at marks i = sym (bit_at_and all marks i) ∙ ap (λ n. bit_at n i) has in
-    bit_at_and (bit_or all more) marks i ∙ ap (λ b. min b (bit_at marks i)) (bit_at_or all more i) ∙ omega arith)
+bits_added : (all bits : ℕ) → HasBits (bit_or all bits) bits
+bits_added all bits = same_from_bits _ _ (λ i. bit_at_and (bit_or all bits) bits i ∙ ap (λ b. min b (bit_at bits i)) (bit_at_or all bits i) ∙ omega arith)
 
--- what marks include, others include that include them
-marks_through : (all more marks : ℕ) → HasMarks all more → HasMarks more marks → HasMarks all marks
-marks_through all more marks has among = same_from_bits _ _ (λ i.
+bits_kept : (all more bits : ℕ) → HasBits all bits → HasBits (bit_or all more) bits
+bits_kept all more bits has = same_from_bits _ _ (λ i.
+    let own : min (bit_at all i) (bit_at bits i) ≡ bit_at bits i = sym (bit_at_and all bits i) ∙ ap (λ n. bit_at n i) has in
+    bit_at_and (bit_or all more) bits i ∙ ap (λ b. min b (bit_at bits i)) (bit_at_or all more i) ∙ omega arith)
+
+-- what bits include, others include that include them
+bits_through : (all more bits : ℕ) → HasBits all more → HasBits more bits → HasBits all bits
+bits_through all more bits has among = same_from_bits _ _ (λ i.
     let one : min (bit_at all i) (bit_at more i) ≡ bit_at more i = sym (bit_at_and all more i) ∙ ap (λ n. bit_at n i) has in
-    let two : min (bit_at more i) (bit_at marks i) ≡ bit_at marks i = sym (bit_at_and more marks i) ∙ ap (λ n. bit_at n i) among in
-    bit_at_and all marks i ∙ omega arith)
+    let two : min (bit_at more i) (bit_at bits i) ≡ bit_at bits i = sym (bit_at_and more bits i) ∙ ap (λ n. bit_at n i) among in
+    bit_at_and all bits i ∙ omega arith)
+
+-- two of which each is among all of them
+pub both_bits : (all a b : ℕ) → HasBits all a → HasBits all b → HasBits all (bit_or a b)
+both_bits all a b has also = same_from_bits _ _ (λ i.
+    let one : min (bit_at all i) (bit_at a i) ≡ bit_at a i = sym (bit_at_and all a i) ∙ ap (λ n. bit_at n i) has in
+    let two : min (bit_at all i) (bit_at b i) ≡ bit_at b i = sym (bit_at_and all b i) ∙ ap (λ n. bit_at n i) also in
+    bit_at_and all (bit_or a b) i ∙ ap (λ n. min (bit_at all i) n) (bit_at_or a b i) ∙ omega (arith, bit_at_or a b i))
+
+pub no_bits : (all : ℕ) → HasBits all 0
+no_bits all = same_from_bits _ _ (λ i. bit_at_and all 0 i ∙ omega arith)
 
 text_in : Datum → List ℕ
 text_in (a_text t) = t
 text_in _ = []
 
 -- a value that is a text has its marks
-pub text_of_value : (property : ℕ) (own : List ℕ) (marks : ℕ) → marks ≡ marks_of_folded property (default_case_fold own) → (text : List ℕ) → a_text own ≡ a_text text → HasMarks marks (marks_of_folded property (default_case_fold text))
+pub text_of_value : (property : ℕ) (own : List ℕ) (marks : TextMarks) → HasMarksOf marks property (default_case_fold own) → (text : List ℕ) → a_text own ≡ a_text text → HasMarksOf marks property (default_case_fold text)
 unfolding text_in
-text_of_value property own marks is text same =
-    subst (HasMarks marks) (is ∙ ap (λ d. marks_of_folded property (default_case_fold (text_in d))) same) (marks_same marks)
+text_of_value property own marks has text same = subst (λ t. HasMarksOf marks property (default_case_fold t)) (ap text_in same) has
+
+pub kept_first : (o : Option ℕ) (bit : ℕ → ℕ) (all more : ℕ) → IfSome o (λ c. HasBits all (bit c)) → IfSome o (λ c. HasBits (bit_or all more) (bit c))
+kept_first None bit all more has = tt
+kept_first (Some c) bit all more has = bits_kept all more (bit c) has
+
+pub added_last : (o : Option ℕ) (bit : ℕ → ℕ) (all more : ℕ) → IfSome o (λ c. HasBits more (bit c)) → IfSome o (λ c. HasBits (bit_or all more) (bit c))
+added_last None bit all more has = tt
+added_last (Some c) bit all more has = bits_through (bit_or all more) more (bit c) (bits_added all more) has
+
+-- ---- more marks
+
+abbrev joined : TextMarks → TextMarks → TextMarks
+joined all more = record { hashes = bit_or all.hashes more.hashes; ends = bit_or all.ends more.ends }
+
+kept : (all more : TextMarks) (property : ℕ) (folded : List ℕ) → HasMarksOf all property folded → HasMarksOf (joined all more) property folded
+kept all more property folded has = record {
+  hash = bits_kept all.hashes more.hashes _ has.hash;
+  first = λ c b. bits_kept all.ends more.ends _ (has.first c b);
+  last = λ c e. bits_kept all.ends more.ends _ (has.last c e);
+}
+
+added : (all more : TextMarks) (property : ℕ) (folded : List ℕ) → HasMarksOf more property folded → HasMarksOf (joined all more) property folded
+added all more property folded has = record {
+  hash = bits_through (bit_or all.hashes more.hashes) more.hashes _ (bits_added all.hashes more.hashes) has.hash;
+  first = λ c b. bits_through (bit_or all.ends more.ends) more.ends _ (bits_added all.ends more.ends) (has.first c b);
+  last = λ c e. bits_through (bit_or all.ends more.ends) more.ends _ (bits_added all.ends more.ends) (has.last c e);
+}
 
 -- ---- the texts of the first properties
 
-abbrev pub AreMarkedBelow : ℕ → ℕ → List Datum → Type 0
-AreMarkedBelow all count values = (property : ℕ) (text : List ℕ) → property < count → slice_get values property ≡ Some (a_text text) → HasMarks all (marks_of_folded property (default_case_fold text))
+abbrev pub AreMarkedBelow : TextMarks → ℕ → List Datum → Type 0
+AreMarkedBelow all count values = (property : ℕ) (text : List ℕ) → property < count → slice_get values property ≡ Some (a_text text) → HasMarksOf all property (default_case_fold text)
 
 split : (n count : ℕ) → n < count + 1 → (n ≡ count) ⊎ (n < count)
 split n count h = grind arith
 
-pub marked_more : (values : List Value) (count all more : ℕ) (value : Value) → count < length values → value ≡ get_or values count value → AreMarkedBelow all count (map datum_of values)
-    → ((text : List ℕ) → datum_of value ≡ a_text text → HasMarks more (marks_of_folded count (default_case_fold text))) → AreMarkedBelow (bit_or all more) (count + 1) (map datum_of values)
+pub marked_more : (values : List Value) (count : ℕ) (all more : TextMarks) (value : Value) → count < length values → value ≡ get_or values count value → AreMarkedBelow all count (map datum_of values)
+    → ((text : List ℕ) → datum_of value ≡ a_text text → HasMarksOf more count (default_case_fold text)) → AreMarkedBelow (joined all more) (count + 1) (map datum_of values)
 marked_more values count all more value within is before here property text below at = go (split property count below)
   where
     value_at : slice_get (map datum_of values) count ≡ Some (datum_of value)
     value_at = slice_get-map datum_of values count ∙ ap (option_map datum_of) (slice_get_read values (length values) count value refl within is)
 
-    go : (property ≡ count) ⊎ (property < count) → HasMarks (bit_or all more) (marks_of_folded property (default_case_fold text))
+    go : (property ≡ count) ⊎ (property < count) → HasMarksOf (joined all more) property (default_case_fold text)
     go (inl e) =
-        subst (λ n. HasMarks (bit_or all more) (marks_of_folded n (default_case_fold text))) (sym e)
-        (marks_through (bit_or all more) more _ (marks_added all more) (here text (same_Some _ _ (sym value_at ∙ subst (λ n. slice_get (map datum_of values) n ≡ Some (a_text text)) e at))))
-    go (inr l) = marks_kept all more _ (before property text l at)
+        subst (λ n. HasMarksOf (joined all more) n (default_case_fold text)) (sym e)
+        (added all more count (default_case_fold text) (here text (same_Some _ _ (sym value_at ∙ subst (λ n. slice_get (map datum_of values) n ≡ Some (a_text text)) e at))))
+    go (inr l) = kept all more property (default_case_fold text) (before property text l at)
 
-pub all_marked : (values : List Value) (count all : ℕ) → length values ≤ count → AreMarkedBelow all count (map datum_of values) → AreMarked all (map datum_of values)
+pub all_marked : (values : List Value) (count : ℕ) (all : TextMarks) → length values ≤ count → AreMarkedBelow all count (map datum_of values) → AreMarked all (map datum_of values)
 all_marked values count all past below property text at = below property text (omega (arith, slice_get_within (map datum_of values) property _ at, length-map values datum_of)) at
 
--- ---- another text
+-- ---- texts that are not there
 
 text_at : (values : List Datum) (property : ℕ) (own : List ℕ) → get_or values property null ≡ a_text own → slice_get values property ≡ Some (a_text own)
 text_at [] property own is = cc
 text_at (d ∷ values) zero own is = ap Some is
 text_at (d ∷ values) (suc property) own is = text_at values property own is
 
-differs : (a b : ℕ) → (a == b) ≡ false → a ≡ b → ⊥
-differs a b e same = grind (arith, nat_tests)
+pub not_told : {A : Type 0} (told : Bool) → told ≡ false → IsTrue told ↔ A → A → ⊥
+not_told told e is a = let so = is.1 a in cc
 
--- where the marks of a folded text are not among all, no value is a text that is folded to it
-pub none_folds : (values : List Datum) (all marks property : ℕ) (text : List ℕ) → AreMarked all values → marks ≡ marks_of_folded property text → (bit_and all marks == marks) ≡ false
-    → (own : List ℕ) → get_or values property null ≡ a_text own → default_case_fold own ≡ text → ⊥
-none_folds values all marks property text marked is none own at same =
-    differs (bit_and all marks) marks none (subst (HasMarks all) (ap (marks_of_folded property) same ∙ sym is) (marked property own (text_at values property own at)))
+-- where marks are not among all, no value is a text that has them with its case folded
+pub none_has : (values : List Datum) (all marks : TextMarks) (property : ℕ) (IsSuch : List ℕ → Type 0) → AreMarked all values → AreMarksOf marks property IsSuch → (Includes all marks → ⊥)
+    → (own : List ℕ) → get_or values property null ≡ a_text own → IsSuch (default_case_fold own) → ⊥
+none_has values all marks property IsSuch marked are none own at such = none (are all (default_case_fold own) such (marked property own (text_at values property own at)))

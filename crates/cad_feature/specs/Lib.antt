@@ -5,6 +5,7 @@ pub mod Folded
 pub mod Laws
 pub mod Lifespans
 pub mod Limits
+pub mod Marks
 pub mod Periods
 pub mod Values
 pub mod VersionRows

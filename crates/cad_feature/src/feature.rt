@@ -3,7 +3,9 @@
 ghost use Rattle.std.specs.Prelude.{◌≡◌, IfOk, map};
 ghost use Rattle.cad_feature.specs.Values.{datum_of};
 
-use crate::folded::{FoldedText, marks_of_values};
+use crate::folded::FoldedText;
+use crate::folded_pattern::FoldedPattern;
+use crate::marks::{TextMarks, marks_of_values};
 use crate::{Period, Value};
 use cad_versions::{Identifier, ObjectId, compare_identifiers};
 use std::alloc::{AllocError, Global};
@@ -25,7 +27,7 @@ pub struct Feature {
     /// The revisions at which it has these values.
     pub period: Period,
     /// The marks of its texts with their case folded.
-    folded: u64,
+    marks: TextMarks,
 }
 
 impl Model for Feature {
@@ -38,9 +40,9 @@ impl Model for Feature {
     ghost view = { λ x. record { object = x.object; number = x.number; values = map datum_of x.values.items; period = x.period } };
 
     ghost use Rattle.cad_versions.specs.Identifiers.{IsVersionNumber};
-    ghost use Rattle.cad_feature.specs.Folded.{AreMarked};
+    ghost use Rattle.cad_feature.specs.Marks.{AreMarked};
 
-    ghost invariant = { λ x. IsVersionNumber x.number × AreMarked x.folded (map datum_of x.values.items) };
+    ghost invariant = { λ x. IsVersionNumber x.number × AreMarked x.marks (map datum_of x.values.items) };
 }
 
 fn copies(alloc: Global, values: &[Value]) -> Result<Vec<Value>, AllocError>
@@ -55,8 +57,9 @@ fn copies(alloc: Global, values: &[Value]) -> Result<Vec<Value>, AllocError>
 }
 
 impl Feature {
-    ghost use Rattle.std.specs.Prelude.{◌≡◌, ◌≢◌, ℕ, List, IfOk, MatchOption, false, map};
+    ghost use Rattle.std.specs.Prelude.{◌≡◌, ◌≢◌, ℕ, List, IfOk, MatchOption, false, map, true};
     ghost use Rattle.caseless.specs.Caseless.{default_case_fold};
+    ghost use Rattle.cql_text.specs.Patterns.{like_test};
     ghost use Rattle.cad_versions.specs.Identifiers.{IsVersionNumber, numbers_of as numbers_said};
     ghost use Rattle.cad_feature.specs.Features.{by_identifier, datum_at, numbers_of};
     ghost use Rattle.cad_feature.specs.Values.{a_text, datum_of, null};
@@ -66,13 +69,13 @@ impl Feature {
         requires { IsVersionNumber number }
         ensures { result ≡ record { object = object; number = number; values = map datum_of values.items; period = period } }
     {
-        let folded = marks_of_values(&values);
+        let marks = marks_of_values(&values);
         Feature {
             object,
             number,
             values,
             period,
-            folded,
+            marks,
         }
     }
 
@@ -86,7 +89,7 @@ impl Feature {
             number: self.number,
             values,
             period,
-            folded: self.folded,
+            marks: self.marks,
         })
     }
 
@@ -99,14 +102,14 @@ impl Feature {
             number,
             values,
             period: _,
-            folded,
+            marks,
         } = self;
         Feature {
             object,
             number,
             values,
             period,
-            folded,
+            marks,
         }
     }
 
@@ -143,7 +146,14 @@ impl Feature {
     pub fn may_fold_to(&self, text: &FoldedText) -> bool
         ensures { result ≡ false → (own : List ℕ) → datum_at self.now text.now.property ≡ a_text own → default_case_fold own ≢ text.now.text }
     {
-        let marks = text.marks();
-        self.folded & marks == marks
+        self.marks.include(text.marks())
+    }
+
+    /// Whether its value of the property may be a text that is like the pattern if its case is folded. Texts that begin or end with another
+    /// character than the pattern are mostly told apart by one comparison of numbers.
+    pub fn may_fold_like(&self, pattern: &FoldedPattern) -> bool
+        ensures { result ≡ false → (own : List ℕ) → datum_at self.now pattern.now.property ≡ a_text own → like_test pattern.now.pattern (default_case_fold own) ≢ true }
+    {
+        self.marks.include(pattern.marks())
     }
 }

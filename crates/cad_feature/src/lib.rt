@@ -1,7 +1,7 @@
 //! The features of a register.
 //!
 //! - [`Feature`], [`Value`]: one version of an object, with its values in the order of the schema.
-//! - [`FoldedText`]: a text with its case folded, by which most features are told apart without a look at their texts.
+//! - [`FoldedText`], [`FoldedPattern`]: what texts are compared to with their case folded, mostly without a look at them.
 //! - [`Period`]: the revisions at which a feature has its values.
 //! - [`flatten`]: the features of a collection, from the versions of a register.
 //! - [`StoredVersions`], [`VersionRows`]: the rows of each version, features with their periods, from the stored versions of a register.
@@ -18,8 +18,10 @@ mod feature;
 mod features_then;
 mod flattening;
 mod folded;
+mod folded_pattern;
 mod joining;
 pub mod laws;
+mod marks;
 mod objects;
 mod period;
 mod range;
@@ -31,6 +33,7 @@ pub use cad_schema::{Collection, Property, PropertyKind, find_property, schema};
 pub use feature::Feature;
 pub use flattening::{flatten, is_in};
 pub use folded::FoldedText;
+pub use folded_pattern::FoldedPattern;
 pub use period::Period;
 pub use range::{Edge, Range, Scalar};
 pub use value::Value;

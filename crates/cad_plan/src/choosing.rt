@@ -165,6 +165,7 @@ pub(crate) fn chosen(
         Normal::Atom { .. } => Ok(all(features)),
         Normal::Owned { .. } => Ok(all(features)),
         Normal::Folded(_) => Ok(all(features)),
+        Normal::LikeFolded(_) => Ok(all(features)),
         Normal::Near {
             property,
             shape,

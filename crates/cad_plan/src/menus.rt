@@ -96,6 +96,10 @@ fn plans_for(alloc: Global, form: &Normal, features: &FeaturesAt) -> Result<Vec<
             let plans = only_all(alloc)?;
             Ok(plans)
         }
+        Normal::LikeFolded(_) => {
+            let plans = only_all(alloc)?;
+            Ok(plans)
+        }
         Normal::Near {
             property,
             shape,

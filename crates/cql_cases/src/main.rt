@@ -22,7 +22,8 @@
 //! After the word `truth` it asks for which features of the collection the filter is true, for which it is false, and for which neither, as
 //! `yes 1.1 3.1 no 1.2 4.1 unknown 2.1`. These features are made here; the answer is `refused` if the text is no such filter. And `truth
 //! texts TEXT|PATTERN` asks whether the text is like the pattern, how the two are ordered, and for the text with its case folded. And `truth
-//! folds rights/party_name TEXT` asks which features may have this text, with its case folded, by their marks: `may 30.1`.
+//! folds rights/party_name TEXT` asks which features may have this text, with its case folded, by their marks: `may 30.1`. And `truth
+//! likes rights/party_name PATTERN` asks which may have a text that is like the pattern, with its case folded.
 //!
 //! A line `repeat N TEXT` is no case: in the next case, N times TEXT replaces its first `@`, the text of a second such line replaces its
 //! second one, and so on. A line without bytes, or one that begins with `#`, is skipped. If memory runs out, the program ends with status

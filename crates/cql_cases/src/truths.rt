@@ -1,7 +1,7 @@
 //! What filters say about features, and how texts compare.
 
 use crate::features::Features;
-use cad_feature::{Feature, FoldedText};
+use cad_feature::{Feature, FoldedPattern, FoldedText};
 use cad_schema::{Collection, find_property};
 use cql_lexer::tokens;
 use cql_meaning::{Truth, fold, like, truth};
@@ -110,6 +110,35 @@ fn put_folds_answer(
     put_may_fold(alloc, features.of(collection), &text, line)
 }
 
+fn put_may_fold_like(
+    alloc: Global,
+    features: &[Feature],
+    pattern: &FoldedPattern,
+    line: &mut String,
+) -> Result<(), AllocError> {
+    line.push_str("may")?;
+    for feature in features {
+        if feature.may_fold_like(pattern) {
+            let identifier = feature.identifier().text(alloc)?;
+            write!(line, " {identifier}")?;
+        }
+    }
+    Ok(())
+}
+
+fn put_likes_answer(
+    alloc: Global,
+    features: &Features,
+    rest: &str,
+    line: &mut String,
+) -> Result<(), AllocError> {
+    let Some((collection, property, pattern)) = asked_property(rest) else {
+        return line.push_str("no property");
+    };
+    let pattern = FoldedPattern::new(property, String::from_str(alloc, pattern)?);
+    put_may_fold_like(alloc, features.of(collection), &pattern, line)
+}
+
 fn put_collection_answer(
     alloc: Global,
     features: &Features,
@@ -148,6 +177,9 @@ pub fn put_answer(
     }
     if name == "folds" {
         return put_folds_answer(alloc, features, rest, line);
+    }
+    if name == "likes" {
+        return put_likes_answer(alloc, features, rest, line);
     }
     match Collection::read(name) {
         Some(collection) => put_collection_answer(alloc, features, collection, rest, line),

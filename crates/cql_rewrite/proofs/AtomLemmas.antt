@@ -3,7 +3,7 @@ use Rattle.std.proofs.Common.{◌≡◌, ◌∙◌, ap, sym, refl, ℕ, List, []
 use Rattle.std.proofs.lemmas.Bool.{and_parts}
 use Rattle.std.specs.List.{list_all, remove}
 use Rattle.std.specs.declared.alloc.Global.{Global}
-use Rattle.cad_feature.specs.Folded.{FoldedValue}
+use Rattle.cad_feature.specs.Folded.{FoldedValue, PatternOfFolded}
 use Rattle.cad_feature.specs.declared.range.Range.{Range as RangeOf}
 use Rattle.cad_shape.specs.declared.shape.Shape.{Shape}
 use Rattle.cql_lexer.specs.declared.token.Comparison.{Comparison}
@@ -19,7 +19,7 @@ use Rattle.cql_types.specs.declared.filter.Filter.TheFolds.{fold-roll-Filter}
 use Rattle.cql_types.specs.declared.filter.Filter.TheOpen.{Filter-F}
 use Rattle.cql_rewrite.specs.Atoms.{HasPlainAtoms, HavePlainAtoms, IsAtom, atom_step, has_plain_atoms, is_atom, plain_step}
 use Rattle.cql_rewrite.specs.declared.form.Normal.{Normal}
-use Rattle.cql_rewrite.specs.declared.form.Normal.TheVariants.{And, Atom, Owned, Folded, Near, Or, Range, rolls-And, rolls-Atom, rolls-Owned, rolls-Folded, rolls-Near, rolls-Or, rolls-Range}
+use Rattle.cql_rewrite.specs.declared.form.Normal.TheVariants.{And, Atom, Owned, Folded, LikeFolded, Near, Or, Range, rolls-And, rolls-Atom, rolls-Owned, rolls-Folded, rolls-LikeFolded, rolls-Near, rolls-Or, rolls-Range}
 use Rattle.cql_rewrite.specs.declared.form.Normal.TheFolds.{fold-roll-Normal}
 use Rattle.cql_rewrite.specs.declared.form.Normal.TheOpen.{Normal-F}
 use Rattle.cql_rewrite.proofs.Forms.{all_at, all_more, all_remove, list_all-map}
@@ -69,6 +69,9 @@ plain_Owned f side = ap has_plain_atoms (sym (rolls-Owned f side)) ∙ fold-roll
 
 pub plain_Folded : (text : FoldedValue) → HasPlainAtoms (Folded text)
 plain_Folded text = ap has_plain_atoms (sym (rolls-Folded text)) ∙ fold-roll-Normal Bool plain_step (Normal-F.Folded text)
+
+pub plain_LikeFolded : (p : PatternOfFolded) → HasPlainAtoms (LikeFolded p)
+plain_LikeFolded p = ap has_plain_atoms (sym (rolls-LikeFolded p)) ∙ fold-roll-Normal Bool plain_step (Normal-F.LikeFolded p)
 
 pub plain_Near : (f : Bor Filter) (property : ℕ) (shape : Bor Shape) → has_plain_atoms (Near f property shape) ≡ is_atom f.now
 plain_Near f property shape = ap has_plain_atoms (sym (rolls-Near f property shape)) ∙ fold-roll-Normal Bool plain_step (Normal-F.Near f property shape)

@@ -105,6 +105,7 @@ step_covers counts x (Normal-F.Like pattern r) h = pair_of x (range_way r) (foun
 step_covers counts x (Normal-F.Atom f side) h = only_all x
 step_covers counts x (Normal-F.Owned f side) h = only_all x
 step_covers counts x (Normal-F.Folded text) h = only_all x
+step_covers counts x (Normal-F.LikeFolded p) h = only_all x
 step_covers counts x (Normal-F.Near f property shape) h = pair_of x (near_block property (block_around (shape_corners shape.now))) (found_near property (block_around (shape_corners shape.now)) x ∙ first_so _ _ h)
 step_covers counts x (Normal-F.And parts) h = and_has x _ (parts_all counts x parts.items h)
 step_covers counts x (Normal-F.Or parts) h = or_has x _ (parts_any counts x parts.items h)

@@ -88,6 +88,7 @@ step_first counts (Normal-F.Like pattern r) = first_of counts all_features _
 step_first counts (Normal-F.Atom f side) = first_of counts all_features _
 step_first counts (Normal-F.Owned f side) = first_of counts all_features _
 step_first counts (Normal-F.Folded text) = first_of counts all_features _
+step_first counts (Normal-F.LikeFolded p) = first_of counts all_features _
 step_first counts (Normal-F.Near f property shape) = first_of counts all_features _
 step_first counts (Normal-F.And parts) = first_of counts all_features _
 step_first counts (Normal-F.Or parts) = first_of counts all_features _

@@ -4,13 +4,13 @@ use Rattle.std.specs.List.{list_all, list_any}
 use Rattle.std.specs.declared.alloc.Global.{Global}
 use Rattle.std.proofs.Common.{String}
 use Rattle.cad_feature.specs.Features.{Item, datum_at}
-use Rattle.cad_feature.specs.Folded.{FoldedValue}
+use Rattle.cad_feature.specs.Folded.{FoldedValue, PatternOfFolded}
 use Rattle.cql_text.specs.Fronts.{text_of}
 use Rattle.cql_meaning.specs.Values.{text_in}
 use Rattle.cad_feature.specs.declared.range.Range.{Range as RangeOf}
 use Rattle.cad_range.specs.Ranges.{lies_in}
 use Rattle.cql_rewrite.specs.declared.form.Normal.{Normal}
-use Rattle.cql_rewrite.specs.declared.form.Normal.TheVariants.{Constant, Range, Like, Owned, Folded, Near, And, Or, rolls-Constant, rolls-Range, rolls-Like, rolls-Owned, rolls-Folded, rolls-Near, rolls-And, rolls-Or}
+use Rattle.cql_rewrite.specs.declared.form.Normal.TheVariants.{Constant, Range, Like, Owned, Folded, LikeFolded, Near, And, Or, rolls-Constant, rolls-Range, rolls-Like, rolls-Owned, rolls-Folded, rolls-LikeFolded, rolls-Near, rolls-And, rolls-Or}
 use Rattle.cql_rewrite.specs.declared.form.Normal.TheFolds.{fold-roll-Normal}
 use Rattle.cql_rewrite.specs.declared.form.Normal.TheOpen.{Normal-F}
 use Rattle.std.proofs.Common.{◌<◌, zero, suc, length, get_or, Option, Some, None, Bor, arith}
@@ -24,7 +24,7 @@ use Rattle.cad_grid.specs.Near.{is_near}
 use Rattle.cql_types.specs.declared.filter.Filter.{Filter}
 use Rattle.cad_range.specs.Ranges.{lies_in_if_any}
 use Rattle.cql_meaning.specs.Sides.{Sides, conjunction}
-use Rattle.cql_rewrite.specs.Meets.{folds, folds_step, in_side, is_folded_to, is_liked, joined_test, meet_step, meets, side_of}
+use Rattle.cql_rewrite.specs.Meets.{folds, folds_step, in_side, is_folded_to, is_liked, is_liked_folded, joined_test, meet_step, meets, side_of}
 use Rattle.cql_meaning.specs.lemmas.ListLemmas.{list_any-map}
 
 -- two clauses of one returned value
@@ -58,6 +58,12 @@ meets_Owned x f side = ap (meets x) (sym (rolls-Owned f side)) ∙ fold-roll-Nor
 
 pub meets_Folded : (x : Item) (text : FoldedValue) → meets x (Folded text) ≡ is_folded_to (text_in (datum_at x text.property)) text.text
 meets_Folded x text = ap (meets x) (sym (rolls-Folded text)) ∙ fold-roll-Normal Bool (meet_step x) (Normal-F.Folded text)
+
+pub meets_LikeFolded : (x : Item) (p : PatternOfFolded) → meets x (LikeFolded p) ≡ is_liked_folded (text_in (datum_at x p.property)) p.pattern
+meets_LikeFolded x p = ap (meets x) (sym (rolls-LikeFolded p)) ∙ fold-roll-Normal Bool (meet_step x) (Normal-F.LikeFolded p)
+
+pub folds_LikeFolded : (p : PatternOfFolded) → folds (LikeFolded p) ≡ true
+folds_LikeFolded p = ap folds (sym (rolls-LikeFolded p)) ∙ fold-roll-Normal Bool folds_step (Normal-F.LikeFolded p)
 
 pub meets_And : (x : Item) (v : Vec Normal Global) → meets x (And v) ≡ list_all (meets x) v.items
 meets_And x v = ap (meets x) (sym (rolls-And v)) ∙ fold-roll-Normal Bool (meet_step x) (Normal-F.And v) ∙ list_all-map (λ b. b) (meets x) v.items

@@ -84,6 +84,7 @@ step_under t (Normal-F.Like pattern r) = count_at_most (λ x. lies_in x.item r) 
 step_under t (Normal-F.Atom f side) = omega arith
 step_under t (Normal-F.Owned f side) = omega arith
 step_under t (Normal-F.Folded text) = omega arith
+step_under t (Normal-F.LikeFolded p) = omega arith
 step_under t (Normal-F.Near f property shape) = omega arith
 step_under t (Normal-F.And parts) = min_of_under (every t) parts.items
 step_under t (Normal-F.Or parts) = omega arith

@@ -76,6 +76,7 @@ step_priced t (Normal-F.Like pattern r) = omega (arith, two_cost t (range_way r)
 step_priced t (Normal-F.Atom f side) = omega (arith, all_cost t)
 step_priced t (Normal-F.Owned f side) = omega (arith, all_cost t)
 step_priced t (Normal-F.Folded text) = omega (arith, all_cost t)
+step_priced t (Normal-F.LikeFolded p) = omega (arith, all_cost t)
 step_priced t (Normal-F.Near f property shape) =
     let w : Way = near_block property (block_around (shape_corners shape.now)) in
     let e : cost (counted t) w ≡ near_count t property shape.now = cost_near (counted t) property (block_around (shape_corners shape.now)) ∙ how_many_map (is_near property (block_around (shape_corners shape.now))) (λ x. x.item) t in

@@ -30,6 +30,7 @@ plain_step (Normal-F.Like pattern r) = true
 plain_step (Normal-F.Atom f side) = is_atom f.now
 plain_step (Normal-F.Owned f side) = is_atom f
 plain_step (Normal-F.Folded text) = true
+plain_step (Normal-F.LikeFolded p) = true
 plain_step (Normal-F.Near f property shape) = is_atom f.now
 plain_step (Normal-F.And parts) = list_all (λ b. b) parts.items
 plain_step (Normal-F.Or parts) = list_all (λ b. b) parts.items

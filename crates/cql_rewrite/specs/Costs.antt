@@ -51,6 +51,7 @@ least_step t (Normal-F.Like pattern r) = how_many (λ x. lies_in x.item r) t
 least_step t (Normal-F.Atom f side) = every t
 least_step t (Normal-F.Owned f side) = every t
 least_step t (Normal-F.Folded text) = every t
+least_step t (Normal-F.LikeFolded p) = every t
 least_step t (Normal-F.Near f property shape) = min (every t) (near_count t property shape.now)
 least_step t (Normal-F.And parts) = min_of (every t) parts.items
 least_step t (Normal-F.Or parts) = min (every t) (total parts.items)

@@ -48,6 +48,11 @@ abbrev pub is_folded_to : Option (List ℕ) → List ℕ → Bool
 is_folded_to None folded = false
 is_folded_to (Some text) folded = texts comparison.Equal (default_case_fold text) folded
 
+-- there is a text, and it is like the pattern if its case is folded
+abbrev pub is_liked_folded : Option (List ℕ) → List ℕ → Bool
+is_liked_folded None pattern = false
+is_liked_folded (Some text) pattern = like_test pattern (default_case_fold text)
+
 -- a form, with whether the feature meets each part in the part's place
 abbrev pub meet_step : Item → Normal-F Bool → Bool
 meet_step x (Normal-F.Constant b) = b
@@ -56,6 +61,7 @@ meet_step x (Normal-F.Like pattern r) = lies_in x r && is_liked (text_in (datum_
 meet_step x (Normal-F.Atom f side) = in_side side x f.now
 meet_step x (Normal-F.Owned f side) = in_side side x f
 meet_step x (Normal-F.Folded text) = is_folded_to (text_in (datum_at x text.property)) text.text
+meet_step x (Normal-F.LikeFolded p) = is_liked_folded (text_in (datum_at x p.property)) p.pattern
 meet_step x (Normal-F.Near f property shape) = is_near property (block_around (shape_corners shape.now)) x && in_side true x f.now
 meet_step x (Normal-F.And parts) = list_all (λ b. b) parts.items
 meet_step x (Normal-F.Or parts) = list_any (λ b. b) parts.items
@@ -95,6 +101,7 @@ folds_step (Normal-F.Like pattern r) = false
 folds_step (Normal-F.Atom f side) = folds_case f.now
 folds_step (Normal-F.Owned f side) = folds_case f
 folds_step (Normal-F.Folded text) = false
+folds_step (Normal-F.LikeFolded p) = true
 folds_step (Normal-F.Near f property shape) = folds_case f.now
 folds_step (Normal-F.And parts) = list_any (λ b. b) parts.items
 folds_step (Normal-F.Or parts) = list_any (λ b. b) parts.items

@@ -66,6 +66,7 @@ menu_step counts (Normal-F.Like pattern r) = all_features ∷ range_way r ∷ []
 menu_step counts (Normal-F.Atom f side) = all_features ∷ []
 menu_step counts (Normal-F.Owned f side) = all_features ∷ []
 menu_step counts (Normal-F.Folded text) = all_features ∷ []
+menu_step counts (Normal-F.LikeFolded p) = all_features ∷ []
 menu_step counts (Normal-F.Near f property shape) = all_features ∷ near_block property (block_around (shape_corners shape.now)) ∷ []
 menu_step counts (Normal-F.And parts) = and_menu (map (chosen counts) parts.items)
 menu_step counts (Normal-F.Or parts) = or_menu (map (chosen counts) parts.items)

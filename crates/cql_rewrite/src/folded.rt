@@ -6,9 +6,10 @@ ghost use Rattle.cql_meaning.specs.Sides.{sides};
 ghost use Rattle.cql_meaning.specs.Values.{folded_content, text_value};
 ghost use Rattle.cql_rewrite.specs.Atoms.{HasPlainAtoms, IsAtom};
 ghost use Rattle.cql_rewrite.specs.Meets.{in_side, meets};
-ghost use Rattle.cql_rewrite.specs.Terms.{filter_or, in_text_sides, like_sides, text_sides};
+ghost use Rattle.cql_rewrite.specs.Terms.{filter_or, in_text_sides, like_sides, met_or, text_sides};
 
 use crate::folded_equality::folded_equality;
+use crate::folded_like::folded_like;
 use crate::form::Normal;
 use crate::terms::copied;
 use cql_lexer::Comparison;
@@ -161,6 +162,18 @@ fn settled_atom<'a>(alloc: Global, filter: &'a Filter, side: bool) -> Result<Nor
     }
 }
 
+// The form of a condition that marks of texts with their case folded may decide.
+fn marked<'a>(alloc: Global, filter: &Filter, side: bool) -> Result<Option<Normal<'a>>, AllocError>
+    ensures stands { IfOk result (λ o. (x : Item) → met_or x o (in_side side x filter.now) ≡ in_side side x filter.now) }
+    ensures atoms { IfOk result (λ o. IfSome o HasPlainAtoms) }
+{
+    let equality = folded_equality(alloc, filter, side)?;
+    match equality {
+        Some(form) => Ok(Some(form)),
+        None => folded_like(alloc, filter, side),
+    }
+}
+
 /// The filter as a condition by itself. An error means out of memory.
 pub(crate) fn atom<'a>(
     alloc: Global,
@@ -170,8 +183,8 @@ pub(crate) fn atom<'a>(
     ensures stands { IfOk result (λ n. (x : Item) → meets x n ≡ in_side side x filter.now) }
     ensures atoms { IfOk result (λ n. IsAtom filter.now → HasPlainAtoms n) }
 {
-    let equality = folded_equality(alloc, filter, side)?;
-    match equality {
+    let marked = marked(alloc, filter, side)?;
+    match marked {
         Some(form) => Ok(form),
         None => settled_atom(alloc, filter, side),
     }

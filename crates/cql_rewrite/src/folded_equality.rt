@@ -26,8 +26,8 @@ fn property(term: &TextTerm) -> Option<usize>
     }
 }
 
-// The property whose text the term is, with its case folded.
-fn folded_property(term: &TextTerm) -> Option<usize>
+/// The property whose text the term is, with its case folded.
+pub(crate) fn folded_property(term: &TextTerm) -> Option<usize>
     ensures { IfSome result (λ property. (x : Item) → text_value x term.now ≡ folded_content (text_in (datum_at x property))) }
 {
     match term {

@@ -1,6 +1,6 @@
 //! Normal forms.
 
-use cad_feature::FoldedText;
+use cad_feature::{FoldedPattern, FoldedText};
 use cad_range::Range;
 use cad_shape::Shape;
 use cql_types::Filter;
@@ -30,6 +30,8 @@ pub enum Normal<'a> {
     },
     /// The feature has this text, with its case folded.
     Folded(FoldedText),
+    /// The feature has a text that is like the pattern, with its case folded.
+    LikeFolded(FoldedPattern),
     /// The filter is true of the feature, and its shape of the property is near the shape: its bounds touch more than 64
     /// cells, or a cell that the shape's bounds touch.
     Near {

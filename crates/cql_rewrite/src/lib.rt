@@ -16,6 +16,7 @@ mod comparison;
 mod flags;
 mod folded;
 mod folded_equality;
+mod folded_like;
 mod form;
 pub mod laws;
 mod likes;

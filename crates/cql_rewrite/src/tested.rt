@@ -11,15 +11,15 @@ ghost use Rattle.cad_feature.specs.Values.{datum_of};
 ghost use Rattle.cql_text.specs.Fronts.{text_of};
 ghost use Rattle.cql_meaning.specs.Folding.{folds_case};
 ghost use Rattle.cql_meaning.specs.Values.{text_in};
-ghost use Rattle.cql_rewrite.specs.Meets.{folds, in_side, is_folded_to, is_liked as is_liked_of, meets};
+ghost use Rattle.cql_rewrite.specs.Meets.{folds, in_side, is_folded_to, is_liked as is_liked_of, is_liked_folded as is_liked_folded_of, meets};
 
 use crate::form::Normal;
-use cad_feature::{Feature, FoldedText, Value};
+use cad_feature::{Feature, FoldedPattern, FoldedText, Value};
 use cad_grid::{Cells, bounds_of};
 use cad_range::lies_in;
 use cad_shape::{Shape, bounds};
 use cql_meaning::{Truth, truth};
-use cql_text::{compare_folded, like};
+use cql_text::{compare_folded, like, like_folded};
 use cql_types::Filter;
 use std::alloc::{AllocError, Global};
 
@@ -87,6 +87,45 @@ fn has_folded(feature: &Feature, text: &FoldedText) -> bool
     feature.may_fold_to(text) && is_folded_at(feature, text)
 }
 
+fn is_liked_folded(alloc: Global, value: &Value, pattern: &str) -> Result<bool, AllocError>
+    ensures { IfOk result (λ b. b ≡ is_liked_folded_of (text_in (datum_of value.now)) (chars pattern.now)) }
+{
+    match value {
+        Value::Text(own) => like_folded(alloc, own.as_ref().as_str(), pattern),
+        _ => Ok(false),
+    }
+}
+
+fn is_liked_folded_at(
+    alloc: Global,
+    feature: &Feature,
+    pattern: &FoldedPattern,
+) -> Result<bool, AllocError>
+    ensures { IfOk result (λ b. b ≡ is_liked_folded_of (text_in (datum_at feature.now pattern.now.property)) pattern.now.pattern) }
+{
+    let property = pattern.property();
+    if property < feature.values.len() {
+        is_liked_folded(alloc, &feature.values[property], pattern.as_str())
+    } else {
+        Ok(false)
+    }
+}
+
+// The marks are compared first: of most features no text is looked at.
+fn has_liked_folded(
+    alloc: Global,
+    feature: &Feature,
+    pattern: &FoldedPattern,
+) -> Result<bool, AllocError>
+    ensures { IfOk result (λ b. b ≡ is_liked_folded_of (text_in (datum_at feature.now pattern.now.property)) pattern.now.pattern) }
+{
+    if feature.may_fold_like(pattern) {
+        is_liked_folded_at(alloc, feature, pattern)
+    } else {
+        Ok(false)
+    }
+}
+
 // Whether the two have a cell in common, or the feature has more than 64 cells.
 fn are_near(own: Cells, asked: Cells) -> bool
     ensures { result ≡ is_candidate (block_at asked) (Some (block_at own)) }
@@ -147,6 +186,7 @@ pub fn test(alloc: Global, form: &Normal, feature: &Feature) -> Result<bool, All
         Normal::Atom { filter, side } => is_said(alloc, filter, *side, feature),
         Normal::Owned { filter, side } => is_said(alloc, filter, *side, feature),
         Normal::Folded(text) => Ok(has_folded(feature, text)),
+        Normal::LikeFolded(pattern) => has_liked_folded(alloc, feature, pattern),
         Normal::Near {
             filter,
             property,

@@ -1,18 +1,15 @@
 -- What a text ends with that is like a pattern which ends with a character, and what a folded text ends with.
-use Rattle.std.proofs.Common.{Option, Some, None, ◌≡◌, ◌∙◌, ℕ, Bool, true, false, not, ◌==◌, List, [], ◌∷◌, ◌++◌, ap, sym, refl}
-use Rattle.std.specs.Prelude.{MatchOption}
-use Rattle.std.proofs.lemmas.List.{append-nil, append_assoc, same_from_push}
+use Rattle.std.proofs.Common.{Option, Some, None, ◌≡◌, ◌∙◌, ℕ, Bool, true, false, not, List, [], ◌∷◌, ◌++◌, ap, sym, refl}
+use Rattle.std.specs.Prelude.{◌↔◌, IsTrue, MatchOption}
+use Rattle.std.proofs.lemmas.List.{append-nil, append_assoc}
 use Rattle.std.proofs.lemmas.Grind.{flat_map-append}
 use Rattle.ucd_case.specs.CaseFolding.{full_fold}
 use Rattle.caseless.specs.Caseless.{default_case_fold}
+use Rattle.cql_text.specs.Ends.{EndsExactly, EndsWith}
 use Rattle.cql_text.specs.Patterns.{Matches, Piece, any, one, exactly, is_like}
 use Rattle.cql_text.specs.declared.pattern.Part.{Part}
 use Rattle.cql_text.specs.inner.Parts.{piece_of}
-use Rattle.cql_text.proofs.LikenessLemmas.{by_bool, other_than}
 use Rattle.cql_text.proofs.MatchLemmas.{matches_from}
-
-abbrev EndsWith : ℕ → List ℕ → Type 0
-EndsWith c text = (u : List ℕ) × (text ≡ u ++ c ∷ [])
 
 ends : (front : List Piece) (c : ℕ) (text : List ℕ) → Matches (front ++ exactly c ∷ []) text → EndsWith c text
 ends [] c text m = ([], m.1 ∙ ap (λ (v : List ℕ). c ∷ v) m.2)
@@ -20,22 +17,13 @@ ends (any ∷ p) c text m = let r = ends p c m.1 m.3 in (m.0 ++ r.0, m.2 ∙ ap 
 ends (one ∷ p) c text m = let r = ends p c m.1 m.3 in (m.0 ∷ r.0, m.2 ∙ ap (λ (t : List ℕ). m.0 ∷ t) r.1)
 ends (exactly d ∷ p) c text m = let r = ends p c m.0 m.2 in (d ∷ r.0, m.1 ∙ ap (λ (t : List ℕ). d ∷ t) r.1)
 
-ends_none : (c : ℕ) (u : List ℕ) → [] ≡ u ++ c ∷ [] → ⊥
-ends_none c [] e = cc
-ends_none c (d ∷ u) e = cc
+-- a text that is like a pattern which ends with a character
+pub ends_alike : (c : ℕ) (parts : List Piece) (text : List ℕ) → EndsExactly c parts → is_like parts text ≡ true → EndsWith c text
+ends_alike c parts text e h = ends e.0 c text (matches_from (e.0 ++ exactly c ∷ []) text (ap (λ (ps : List Piece). is_like ps text) (sym e.1) ∙ h))
 
--- a text that ends with another character
-pub other_end : (front : List Piece) (c d : ℕ) (u text : List ℕ) → (d == c) ≡ false → text ≡ u ++ d ∷ [] → is_like (front ++ exactly c ∷ []) text ≡ false
-other_end front c d u text differs e = by_bool (is_like (front ++ exactly c ∷ []) text)
-    (λ h. let r = ends front c text (matches_from (front ++ exactly c ∷ []) text h) in
-    absurd (other_than d c differs (same_from_push u r.0 d c (sym e ∙ r.1)).1))
-    (λ h. h)
-
--- a text without a character
-pub no_end : (front : List Piece) (c : ℕ) (text : List ℕ) → text ≡ [] → is_like (front ++ exactly c ∷ []) text ≡ false
-no_end front c text e = by_bool (is_like (front ++ exactly c ∷ []) text)
-    (λ h. let r = ends front c text (matches_from (front ++ exactly c ∷ []) text h) in absurd (ends_none c r.0 (sym e ∙ r.1)))
-    (λ h. h)
+-- what cannot be is as false as false
+pub never : {A : Type 0} → (A → ⊥) → IsTrue false ↔ A
+never none = (λ (h : false ≡ true). cc, λ a. absurd (none a))
 
 -- the last character of a text is folded last
 pub folds_last : (front : List ℕ) (c : ℕ) (folded : List ℕ) (d : ℕ) → full_fold c ≡ folded ++ d ∷ [] → default_case_fold (front ++ c ∷ []) ≡ (default_case_fold front ++ folded) ++ d ∷ []

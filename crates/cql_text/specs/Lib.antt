@@ -2,6 +2,7 @@ pub mod Likeness
 pub mod Patterns
 pub mod Order
 pub mod Fronts
+pub mod Ends
 pub mod Hashes
 pub mod Laws
 pub mod CodePoints

@@ -6,10 +6,13 @@
 //! - [`compare`]: the order of texts, by code points.
 //! - [`compare_folded`]: the same of a text with its case folded, without memory for it.
 //! - [`like_range`]: the range of the texts that begin with a pattern's front
+//! - [`first_folded`], [`last_folded`]: the first and the last character of a text with its case folded
+//! - [`first_literal`], [`last_literal`]: the characters with which each text begins and ends that is like a pattern
 //! - [`hash_of`], [`hash_of_folded`]: the hash of a text, by which most texts are told apart, and that of a text with its case folded
 //! - [`laws`]: what holds of patterns, folding and the order, beyond what each call says.
 #![tactic(auto)]
 
+mod ends;
 mod folding;
 mod front;
 mod hash;
@@ -17,6 +20,7 @@ pub mod laws;
 mod order;
 mod pattern;
 
+pub use ends::{first_folded, first_literal, last_folded, last_literal};
 pub use folding::fold;
 pub use front::{LikeRange, like_range};
 pub use hash::{hash_of, hash_of_folded};

@@ -1,16 +1,15 @@
 //! LIKE, in one walk that remembers one place to return to.
 
-ghost use Rattle.std.specs.Prelude.{◌≡◌, ◌↔◌, ◌∷◌, ◌++◌, ℕ, List, [], true, false, chars, IfOk, MatchOption, IsTrue};
-ghost use Rattle.ucd_case.specs.CaseFolding.{full_fold};
+ghost use Rattle.std.specs.Prelude.{◌≡◌, ◌↔◌, ◌∷◌, ℕ, [], true, false, chars, IfOk, MatchOption, IsTrue};
 ghost use Rattle.caseless.specs.Caseless.{default_case_fold};
-ghost use Rattle.cql_text.specs.Patterns.{Advances, BeginsPlain, Piece, Stops, any, is_like, like_test, pieces, piece_takes, some_end};
+ghost use Rattle.cql_text.specs.Ends.{BeginsExactly, BeginsWith, EndsExactly, EndsWith};
+ghost use Rattle.cql_text.specs.Patterns.{Advances, BeginsPlain, Stops, any, is_like, like_test, pieces, piece_takes, some_end};
 ghost use Rattle.cql_text.specs.Likeness.{IsLike};
 ghost use Rattle.cql_text.specs.inner.Parts.{piece_of};
 
+use crate::ends::{first_folded, first_literal, last_folded, last_literal};
 use crate::folding::fold;
-use caseless::Caseless;
 use std::alloc::{AllocError, Global};
-use ucd_case::full_folding;
 
 // One part of a pattern: it matches any number of characters, any one, or exactly that one.
 #[derive(Clone, Copy)]
@@ -42,80 +41,32 @@ pub fn like_folded(alloc: Global, text: &str, pattern: &str) -> Result<bool, All
     Ok(like(folded.as_str(), pattern))
 }
 
-// Whether the pattern begins with a character, and the folded text with none or with another one.
+// Whether the pattern begins with a character, and the folded text does not.
 fn begins_otherwise(text: &str, pattern: &str) -> bool
-    ensures { result ≡ true → like_test (chars pattern.now) (default_case_fold (chars text.now)) ≡ false }
+    ensures told { IsTrue result ↔ ((c : ℕ) × BeginsExactly c (pieces (chars pattern.now)) × (BeginsWith c (default_case_fold (chars text.now)) → ⊥)) }
+    ensures unlike { result ≡ true → like_test (chars pattern.now) (default_case_fold (chars text.now)) ≡ false }
 {
-    match (first_part(pattern), first_folded(text)) {
-        (Some((Part::Exactly(first), _)), Some(own)) => own != first,
-        (Some((Part::Exactly(_), _)), None) => true,
-        _ => false,
+    let Some(first) = first_literal(pattern) else {
+        return false;
+    };
+    match first_folded(text) {
+        None => true,
+        Some(own) => own != first,
     }
 }
 
-// The first character of the folded text.
-fn first_folded(text: &str) -> Option<char>
-    ensures { MatchOption result (default_case_fold (chars text.now) ≡ []) (λ c. (rest : List ℕ) × (default_case_fold (chars text.now) ≡ c ∷ rest)) }
-{
-    let mut all = text.chars().default_case_fold();
-    all.next()
-}
-
-// Whether the pattern ends with a character, and the folded text with none or with another one.
+// Whether the pattern ends with a character, and the folded text does not.
 fn ends_otherwise(text: &str, pattern: &str) -> bool
-    ensures { result ≡ true → like_test (chars pattern.now) (default_case_fold (chars text.now)) ≡ false }
+    ensures told { IsTrue result ↔ ((c : ℕ) × EndsExactly c (pieces (chars pattern.now)) × (EndsWith c (default_case_fold (chars text.now)) → ⊥)) }
+    ensures unlike { result ≡ true → like_test (chars pattern.now) (default_case_fold (chars text.now)) ≡ false }
 {
-    let Some(Part::Exactly(last)) = last_part(pattern) else {
+    let Some(last) = last_literal(pattern) else {
         return false;
     };
     match last_folded(text) {
         None => true,
         Some(own) => own != last,
     }
-}
-
-// The last character of the folded text.
-fn last_folded(text: &str) -> Option<char>
-    ensures { MatchOption result (default_case_fold (chars text.now) ≡ []) (λ c. (front : List ℕ) × (default_case_fold (chars text.now) ≡ front ++ c ∷ [])) }
-{
-    match last_char(text) {
-        None => None,
-        Some((_, last)) => Some(last_of_folded(last)),
-    }
-}
-
-// The last character of what a character is folded to.
-fn last_of_folded(character: char) -> char
-    ensures { (front : List ℕ) × (full_fold character ≡ front ++ result ∷ []) }
-{
-    match full_folding(character) {
-        [.., last] => *last,
-        [] => character,
-    }
-}
-
-// The text before the last character, and that character.
-fn last_char(text: &str) -> Option<(&str, char)>
-    ensures { MatchOption result (chars text.now ≡ []) (λ r. chars text.now ≡ chars r.0.now ++ r.1 ∷ []) }
-{
-    let mut all = text.chars();
-    match all.next_back() {
-        None => None,
-        Some(last) => Some((all.as_str(), last)),
-    }
-}
-
-// The last part of a pattern.
-fn last_part(pattern: &str) -> Option<Part>
-    ensures { MatchOption result (pieces (chars pattern.now) ≡ []) (λ part. (front : List Piece) × (pieces (chars pattern.now) ≡ front ++ piece_of part ∷ [])) }
-{
-    let mut last = None;
-    let mut left = pattern;
-    'parts: while let Some((part, after)) = first_part(left) {
-        last = Some(part);
-        left = after;
-    }
-    last
 }
 
 // Up to the first part that matches any number, each part takes one character.

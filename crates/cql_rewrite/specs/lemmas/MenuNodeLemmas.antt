@@ -39,6 +39,7 @@ step_costs counts (Normal-F.Like pattern r) = first_costs counts all_features (r
 step_costs counts (Normal-F.Atom f side) = all_costs counts
 step_costs counts (Normal-F.Owned f side) = all_costs counts
 step_costs counts (Normal-F.Folded text) = all_costs counts
+step_costs counts (Normal-F.LikeFolded p) = all_costs counts
 step_costs counts (Normal-F.Near f property shape) = first_costs counts all_features (near_block property (block_around (shape_corners shape.now)) ∷ []) (all_costs counts)
 step_costs counts (Normal-F.And parts) = and_costs counts (map (chosen counts) parts.items)
 step_costs counts (Normal-F.Or parts) = or_costs counts (map (chosen counts) parts.items)

@@ -3,7 +3,7 @@ use Rattle.std.specs.Prelude.{chars}
 use Rattle.std.proofs.lemmas.List.{append-nil, nil_from_length}
 use Rattle.std.proofs.lemmas.Str.{chars_from_encodes, chars-nil, encodes-append}
 use Rattle.std.proofs.Math.Utf8.{encode}
-use Rattle.cql_text.proofs.pattern.last_char.Goals as goal
+use Rattle.cql_text.proofs.ends.last_char.Goals as goal
 
 pub returns-in-None : goal.returns-in-None
 returns-in-None c = ap chars (sym c.chars-all.ensures.rest ∙ nil_from_length _ c.in-None.ensures.steps.0) ∙ chars-nil

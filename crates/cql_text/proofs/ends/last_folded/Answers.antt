@@ -2,7 +2,7 @@ use Rattle.std.proofs.Common.{◌∙◌, ◌++◌, ap}
 use Rattle.std.specs.Prelude.{chars}
 use Rattle.caseless.specs.Caseless.{default_case_fold}
 use Rattle.cql_text.proofs.EndLemmas.{folds_last, folds_none}
-use Rattle.cql_text.proofs.pattern.last_folded.Goals as goal
+use Rattle.cql_text.proofs.ends.last_folded.Goals as goal
 
 pub returns-in-None : goal.returns-in-None
 returns-in-None c = folds_none _ c.in-None.ensures

@@ -4,7 +4,7 @@ use denote.Shadow.{shadow}
 use denote.Text.{Utf8}
 use Rattle.cql_text.specs.Patterns.{Piece, pieces}
 use Rattle.cql_text.specs.inner.Parts.{piece_of}
-use Rattle.cql_text.proofs.pattern.last_part.Given as goal
+use Rattle.cql_text.proofs.ends.last_part.Given as goal
 
 abbrev pub invariant-parts : goal.invariant-parts
 invariant-parts l = record {

@@ -2,7 +2,7 @@ use Rattle.std.proofs.Common.{rules}
 use Rattle.std.specs.Prelude.{chars}
 use Rattle.cql_text.specs.Patterns.{pieces}
 use Rattle.cql_text.proofs.EndLemmas.{part_next}
-use Rattle.cql_text.proofs.pattern.last_part.Goals as goal
+use Rattle.cql_text.proofs.ends.last_part.Goals as goal
 
 pub parts-preserved : goal.parts-preserved
 parts-preserved c = record {
