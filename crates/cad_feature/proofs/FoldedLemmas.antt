@@ -1,12 +1,14 @@
 -- Marks of texts with their case folded: which ones the values of a feature have, and which text cannot be there without them.
-use Rattle.std.proofs.Common.{◌≡◌, ◌∙◌, ◌⊎◌, ℕ, zero, suc, ◌+◌, ◌<◌, ◌≤◌, min, false, List, [], ◌∷◌, length, map, get_or, slice_get, Some, option_map, bit_or, inl, inr, refl, ap, sym, subst, arith}
-use Rattle.std.specs.Prelude.{◌↔◌, Bool, IfSome, IsTrue, None, Option}
+use Rattle.std.proofs.Common.{◌≡◌, ◌∙◌, ◌⊎◌, ℕ, zero, suc, ◌+◌, ◌<◌, ◌≤◌, min, false, List, [], ◌∷◌, length, map, get_or, slice_get, Some, option_map, reverse, ◌++◌, bit_or, inl, inr, refl, ap, sym, subst, arith}
+use Rattle.std.specs.Prelude.{◌↔◌, Bool, IfSome, IsTrue, MatchOption, None, Option}
 use Rattle.std.specs.Int.{bit_at}
-use Rattle.std.proofs.lemmas.List.{length-map}
+use Rattle.std.proofs.lemmas.List.{length-map, reverse-append}
 use Rattle.std.proofs.lemmas.Nat.Bits.{bit_at_and, bit_at_or, same_from_bits}
 use Rattle.std.proofs.lemmas.Option.{same_Some, slice_get-map, slice_get_read, slice_get_within}
 use Rattle.caseless.specs.Caseless.{default_case_fold}
-use Rattle.cad_feature.specs.Marks.{AreMarked, AreMarksOf, HasBits, HasMarksOf, Includes}
+use Rattle.cql_text.specs.Ends.{BeginsExactly, EndsExactly}
+use Rattle.cql_text.specs.Patterns.{Piece, exactly, pieces}
+use Rattle.cad_feature.specs.Marks.{AreMarked, AreMarksOf, HasBits, HasEndsOf, HasMarksOf, Includes, bit_of_first, bit_of_last}
 use Rattle.cad_feature.specs.Values.{Datum, null, a_text, datum_of}
 use Rattle.cad_feature.specs.declared.marks.TextMarks.{TextMarks}
 use Rattle.cad_feature.specs.declared.value.Value.{Value}
@@ -57,6 +59,35 @@ kept_first (Some c) bit all more has = bits_kept all more (bit c) has
 pub added_last : (o : Option ℕ) (bit : ℕ → ℕ) (all more : ℕ) → IfSome o (λ c. HasBits more (bit c)) → IfSome o (λ c. HasBits (bit_or all more) (bit c))
 added_last None bit all more has = tt
 added_last (Some c) bit all more has = bits_through (bit_or all more) more (bit c) (bits_added all more) has
+
+-- ---- the characters with which a pattern begins and ends
+
+same_first : (a b : ℕ) (p q : List Piece) → exactly a ∷ p ≡ exactly b ∷ q → a ≡ b
+same_first a b p q e = cc
+
+same_last : (a b : ℕ) (p q : List Piece) → p ++ exactly a ∷ [] ≡ q ++ exactly b ∷ [] → a ≡ b
+same_last a b p q e = same_first a b (reverse p) (reverse q) (sym (reverse-append p (exactly a ∷ [])) ∙ ap reverse e ∙ reverse-append q (exactly b ∷ []))
+
+first_marked : (first : Option ℕ) (bit : ℕ → ℕ) (all : ℕ) (parts : List Piece) → MatchOption first ((c : ℕ) → BeginsExactly c parts → ⊥) (λ c. BeginsExactly c parts)
+    → IfSome first (λ c. HasBits all (bit c)) → (c : ℕ) → BeginsExactly c parts → HasBits all (bit c)
+first_marked None bit all parts none has c begins = absurd (none c begins)
+first_marked (Some d) bit all parts at has c begins = subst (λ n. HasBits all (bit n)) (same_first d c at.0 begins.0 (sym at.1 ∙ begins.1)) has
+
+last_marked : (last : Option ℕ) (bit : ℕ → ℕ) (all : ℕ) (parts : List Piece) → MatchOption last ((c : ℕ) → EndsExactly c parts → ⊥) (λ c. EndsExactly c parts)
+    → IfSome last (λ c. HasBits all (bit c)) → (c : ℕ) → EndsExactly c parts → HasBits all (bit c)
+last_marked None bit all parts none has c ends = absurd (none c ends)
+last_marked (Some d) bit all parts at has c ends = subst (λ n. HasBits all (bit n)) (same_last d c at.0 ends.0 (sym at.1 ∙ ends.1)) has
+
+-- bits of the first and of the last character of a pattern, if it begins and ends with one
+pub ends_marked : (marks : TextMarks) (property : ℕ) (pattern : List ℕ) (first last : Option ℕ)
+    → MatchOption first ((c : ℕ) → BeginsExactly c (pieces pattern) → ⊥) (λ c. BeginsExactly c (pieces pattern))
+    → MatchOption last ((c : ℕ) → EndsExactly c (pieces pattern) → ⊥) (λ c. EndsExactly c (pieces pattern))
+    → IfSome first (λ c. HasBits marks.ends (bit_of_first property c)) → IfSome last (λ c. HasBits marks.ends (bit_of_last property c))
+    → HasEndsOf marks property pattern
+ends_marked marks property pattern first last begins ends has also = record {
+  first = first_marked first (bit_of_first property) marks.ends (pieces pattern) begins has;
+  last = last_marked last (bit_of_last property) marks.ends (pieces pattern) ends also;
+}
 
 -- ---- more marks
 

@@ -22,14 +22,14 @@ impl Model for FoldedText {
     ghost view = { λ x. record { property = x.property; text = chars (string_bytes x.text) } };
 
     ghost use Rattle.std.specs.Prelude.{◌≡◌};
-    ghost use Rattle.cad_feature.specs.Marks.{AreMarksOf};
+    ghost use Rattle.cad_feature.specs.Marks.{AreMarksOf, HasHashOf};
 
-    ghost invariant = { λ x. AreMarksOf x.marks x.property (λ folded. folded ≡ chars (string_bytes x.text)) };
+    ghost invariant = { λ x. AreMarksOf x.marks x.property (λ folded. folded ≡ chars (string_bytes x.text)) × HasHashOf x.marks x.property (chars (string_bytes x.text)) };
 }
 
 impl FoldedText {
     ghost use Rattle.std.specs.Prelude.{◌≡◌, chars, string_bytes};
-    ghost use Rattle.cad_feature.specs.Marks.{AreMarksOf};
+    ghost use Rattle.cad_feature.specs.Marks.{AreMarksOf, HasHashOf};
 
     /// The text, which has its case folded, for the property at that place of the schema.
     pub fn new(property: usize, text: String) -> FoldedText
@@ -59,7 +59,8 @@ impl FoldedText {
 
     /// The marks that each text has which is this one if its case is folded.
     pub(crate) fn marks(&self) -> TextMarks
-        ensures { AreMarksOf result self.now.property (λ folded. folded ≡ self.now.text) }
+        ensures no_further { AreMarksOf result self.now.property (λ folded. folded ≡ self.now.text) }
+        ensures none_missing { HasHashOf result self.now.property self.now.text }
     {
         self.marks
     }

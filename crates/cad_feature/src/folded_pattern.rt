@@ -23,15 +23,15 @@ impl Model for FoldedPattern {
 
     ghost use Rattle.std.specs.Prelude.{◌≡◌, true};
     ghost use Rattle.cql_text.specs.Patterns.{like_test};
-    ghost use Rattle.cad_feature.specs.Marks.{AreMarksOf};
+    ghost use Rattle.cad_feature.specs.Marks.{AreMarksOf, HasEndsOf};
 
-    ghost invariant = { λ x. AreMarksOf x.marks x.property (λ folded. like_test (chars (string_bytes x.pattern)) folded ≡ true) };
+    ghost invariant = { λ x. AreMarksOf x.marks x.property (λ folded. like_test (chars (string_bytes x.pattern)) folded ≡ true) × HasEndsOf x.marks x.property (chars (string_bytes x.pattern)) };
 }
 
 impl FoldedPattern {
     ghost use Rattle.std.specs.Prelude.{◌≡◌, chars, string_bytes, true};
     ghost use Rattle.cql_text.specs.Patterns.{like_test};
-    ghost use Rattle.cad_feature.specs.Marks.{AreMarksOf};
+    ghost use Rattle.cad_feature.specs.Marks.{AreMarksOf, HasEndsOf};
 
     /// The pattern for the property at that place of the schema.
     pub fn new(property: usize, pattern: String) -> FoldedPattern
@@ -61,7 +61,8 @@ impl FoldedPattern {
 
     /// The marks that each text has which is like the pattern if its case is folded.
     pub(crate) fn marks(&self) -> TextMarks
-        ensures { AreMarksOf result self.now.property (λ folded. like_test self.now.pattern folded ≡ true) }
+        ensures no_further { AreMarksOf result self.now.property (λ folded. like_test self.now.pattern folded ≡ true) }
+        ensures none_missing { HasEndsOf result self.now.property self.now.pattern }
     {
         self.marks
     }

@@ -3,7 +3,7 @@
 ghost use Rattle.std.specs.Prelude.{◌≡◌, ℕ, List, IfSome, chars, map, true};
 ghost use Rattle.caseless.specs.Caseless.{default_case_fold};
 ghost use Rattle.cql_text.specs.Patterns.{like_test};
-ghost use Rattle.cad_feature.specs.Marks.{AreMarked, AreMarksOf, HasBits, HasMarksOf, Includes, bit_of_first as first_bit, bit_of_last as last_bit, bits_of_hash as hash_bits};
+ghost use Rattle.cad_feature.specs.Marks.{AreMarked, AreMarksOf, HasBits, HasEndsOf, HasHashOf, HasMarksOf, Includes, bit_of_first as first_bit, bit_of_last as last_bit, bits_of_hash as hash_bits};
 ghost use Rattle.cad_feature.specs.Values.{a_text, datum_of};
 
 use crate::Value;
@@ -107,7 +107,8 @@ pub(crate) fn marks_of_values(values: &[Value]) -> TextMarks
 
 /// The marks that a text of the property has which is this one if its case is folded.
 pub(crate) fn marks_of_folded(property: usize, text: &str) -> TextMarks
-    ensures { AreMarksOf result property (λ folded. folded ≡ chars text.now) }
+    ensures no_further { AreMarksOf result property (λ folded. folded ≡ chars text.now) }
+    ensures none_missing { HasHashOf result property (chars text.now) }
 {
     TextMarks {
         hashes: bits_of_hash(property, hash_of(text)),
@@ -117,7 +118,8 @@ pub(crate) fn marks_of_folded(property: usize, text: &str) -> TextMarks
 
 /// The marks that a text of the property has which is like the pattern if its case is folded.
 pub(crate) fn marks_of_pattern(property: usize, pattern: &str) -> TextMarks
-    ensures { AreMarksOf result property (λ folded. like_test (chars pattern.now) folded ≡ true) }
+    ensures no_further { AreMarksOf result property (λ folded. like_test (chars pattern.now) folded ≡ true) }
+    ensures none_missing { HasEndsOf result property (chars pattern.now) }
 {
     TextMarks {
         hashes: 0,
