@@ -403,7 +403,8 @@ def reports(text, before=()):
     """The reports for lines, over a register into which the lines before were entered, which are all accepted."""
     register, revision = {}, len(before)
     for line in before:
-        assert apply(register, *office_model.command(line)) is None, line
+        fault = apply(register, *office_model.command(line))
+        assert fault is None, line
     for line in text.split(b"\n"):
         if not line:
             continue
