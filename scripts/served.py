@@ -15,6 +15,8 @@ from urllib.request import urlopen
 
 TOP = Path(__file__).resolve().parent.parent
 PATH = os.environ.get("PATH", "")
+# Requests to this machine go through no proxy.
+os.environ |= {"no_proxy": "*", "NO_PROXY": "*"}
 PROGRAM = os.environ.get("CADASTRE") or str(TOP / "crates/cadastre/out/cadastre")
 SERVICE = os.environ.get("CADASTRED") or str(TOP / "crates/cadastred/out/cadastred")
 COLLECTIONS = ["parcels", "rights", "restrictions", "units", "parties", "responsibilities"]
