@@ -4,6 +4,7 @@
 //!   tested, and which part of the answer is wanted
 //! - [`page`]: the first features that answer, after one that is named, and whether more are left: a [`Page`]. It examines the candidates
 //!   of a [`Plan`] among the features of a revision: [`FeaturesAt`]
+//! - [`piece`]: a piece of the search for that page, of bounded work, by a [`Search`] that was begun
 //! - [`page_at`]: the same of those that pass any test
 //! - [`candidate_count`]: how many candidates a plan has among these features
 //! - `laws`: that pages ascend and are full, and that the pages of a walk, joined, are the whole answer. If a plan covers the answer, its
@@ -21,11 +22,14 @@ mod lifespans;
 mod list_candidates;
 mod paging;
 mod past_candidates;
+mod piecing;
 mod query;
 mod query_test;
+mod stepping;
 
 pub use cad_history::FeaturesAt;
-pub use cad_run::{Page, Plan};
+pub use cad_run::{Page, Plan, Progress, Search};
 pub use counting::candidate_count;
 pub use paging::{page, page_at};
+pub use piecing::piece;
 pub use query::PageQuery;

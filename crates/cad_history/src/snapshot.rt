@@ -88,6 +88,18 @@ impl Snapshot {
         })
     }
 
+    /// The same snapshot once more, lent from the same histories. An error means that too many share them.
+    pub fn share(&self) -> Result<Snapshot, AllocError>
+        ensures { IfOk result (λ s. s ≡ self.now) }
+    {
+        let histories = self.histories.clone()?;
+        Ok(Snapshot {
+            revision: self.revision,
+            histories,
+            moment: self.moment,
+        })
+    }
+
     /// How many commands were accepted up to this revision.
     pub fn revision(&self) -> u64
         ensures { result ≡ self.now.revision }

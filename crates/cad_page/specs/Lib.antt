@@ -3,5 +3,7 @@ pub mod Features
 pub mod Pages
 pub mod Laws
 pub mod Plans
+pub mod Pieces
+pub mod Conditions
 pub mod inner
 pub mod lemmas

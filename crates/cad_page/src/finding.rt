@@ -1,22 +1,20 @@
 //! What a request asks of a snapshot.
 
-ghost use Rattle.std.specs.Prelude.{◌≡◌, IfOk, Some};
+ghost use Rattle.std.specs.Prelude.{◌≡◌, IfOk};
 ghost use Rattle.std.specs.List.{All};
 ghost use Rattle.cad_feature.specs.Features.{IsFeatureOf};
 ghost use Rattle.cad_answer.specs.Answers.{restrictions_of};
 ghost use Rattle.cad_answer.specs.Answers.{after_of};
 ghost use Rattle.cad_run.specs.Slices.{rows_of};
 ghost use Rattle.cad_page.specs.Pages.{restrictions, beginning, rows_in, is_more_in};
-ghost use Rattle.cad_page.specs.Plans.{CoversAnswer, IsBoxFilter, IsChosen, IsFormOf, examined_in};
+ghost use Rattle.cad_page.specs.Plans.{CoversAnswer, IsChosen, IsFormOf, examined_in};
 
-use crate::planning::{boxed_form, form_of, geometry_place, plan_for};
+use crate::planning::{box_filter, page_form, plan_for};
 use cad_answer::laws::covering_plans_have_the_answer;
 use cad_answer::{Page, PageQuery, Plan, page};
 use cad_ask::Ask;
 use cad_history::Snapshot;
-use cad_shape::Bounds;
-use cql_rewrite::{Normal, box_condition};
-use cql_types::Filter;
+use cql_rewrite::Normal;
 use std::alloc::{AllocError, Global};
 
 /// A page, with the plan by which it was found.
@@ -27,7 +25,7 @@ pub(crate) struct Planned<'a> {
 }
 
 // The query, with the normal form of what is asked.
-fn query<'a, 'f>(ask: &'f Ask, form: &'a Normal<'f>) -> PageQuery<'a, 'f>
+pub(crate) fn query<'a, 'f>(ask: &'f Ask, form: &'a Normal<'f>) -> PageQuery<'a, 'f>
     ensures asked { restrictions_of result ≡ restrictions ask.now }
     ensures form { result.normal.now ≡ form.now }
     ensures after { after_of result ≡ beginning ask.now }
@@ -87,45 +85,6 @@ fn planned_by<'a, 'f>(
     Ok(Planned { plan, page })
 }
 
-// The same if a box is asked for: `boxed` is the box as a filter, and its form is joined to that of the filter.
-fn planned_with<'a>(
-    alloc: Global,
-    ask: &Ask,
-    boxed: &Filter,
-    snapshot: &'a Snapshot,
-) -> Result<Planned<'a>, AllocError>
-    requires { IsBoxFilter boxed.now ask.now }
-    ensures rows { IfOk result (λ found. rows_of found.page ≡ rows_in ask.now snapshot.now) }
-    ensures more { IfOk result (λ found. found.page.more ≡ is_more_in ask.now snapshot.now) }
-    ensures examined { IfOk result (λ found. found.page.examined ≡ examined_in found.plan ask.now snapshot.now) }
-    ensures features { IfOk result (λ found. All (IsFeatureOf ask.now.collection) (rows_of found.page)) }
-    ensures chosen { IfOk result (λ found. IsChosen found.plan ask.now snapshot.now) }
-{
-    let filter_form = form_of(alloc, ask)?;
-    let form = boxed_form(alloc, ask, filter_form, boxed)?;
-    let planned = planned_by(alloc, ask, &form, snapshot)?;
-    Ok(planned)
-}
-
-// The same if this box is asked for.
-fn planned_in_box<'a>(
-    alloc: Global,
-    ask: &Ask,
-    bounds: Bounds,
-    snapshot: &'a Snapshot,
-) -> Result<Planned<'a>, AllocError>
-    requires { ask.now.selection.bbox ≡ Some bounds }
-    ensures rows { IfOk result (λ found. rows_of found.page ≡ rows_in ask.now snapshot.now) }
-    ensures more { IfOk result (λ found. found.page.more ≡ is_more_in ask.now snapshot.now) }
-    ensures examined { IfOk result (λ found. found.page.examined ≡ examined_in found.plan ask.now snapshot.now) }
-    ensures features { IfOk result (λ found. All (IsFeatureOf ask.now.collection) (rows_of found.page)) }
-    ensures chosen { IfOk result (λ found. IsChosen found.plan ask.now snapshot.now) }
-{
-    let boxed = box_condition(geometry_place(ask.collection), bounds);
-    let planned = planned_with(alloc, ask, &boxed, snapshot)?;
-    Ok(planned)
-}
-
 /// The page that is asked for, with the plan that was chosen for it. The normal form of what is asked is made once, for the choice
 /// and for the tests.
 pub(crate) fn planned_page<'a>(
@@ -139,17 +98,10 @@ pub(crate) fn planned_page<'a>(
     ensures features { IfOk result (λ found. All (IsFeatureOf ask.now.collection) (rows_of found.page)) }
     ensures chosen { IfOk result (λ found. IsChosen found.plan ask.now snapshot.now) }
 {
-    match ask.selection.bbox {
-        None => {
-            let form = form_of(alloc, ask)?;
-            let planned = planned_by(alloc, ask, &form, snapshot)?;
-            Ok(planned)
-        }
-        Some(bounds) => {
-            let planned = planned_in_box(alloc, ask, bounds, snapshot)?;
-            Ok(planned)
-        }
-    }
+    let boxed = box_filter(ask);
+    let form = page_form(alloc, ask, &boxed)?;
+    let planned = planned_by(alloc, ask, &form, snapshot)?;
+    Ok(planned)
 }
 
 /// The page that is asked for.

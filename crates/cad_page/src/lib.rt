@@ -3,6 +3,9 @@
 //! - [`body`]: the page that a request asks for, of a snapshot of its revision
 //! - [`next_link`]: the target of the link to the page after it
 //! - [`explain`]: which features are examined for it: a [`Report`]
+//! - [`page_plan`], [`first_search`], [`page_piece`], [`found_body`]: the same page in pieces of bounded work: the plan, the search, which
+//!   borrows nothing, a piece of it, and the body when it is over
+//! - [`condition_count`]: how many conditions are tested on a feature, by which a piece's bound is chosen
 //! - [`feature_body`]: one feature
 //! - [`Ask`], [`fault_body`], [`Snapshot`], and the bodies that show no features (such as `landing_body`): from the crates below
 //! - [`as_bytes`]: the same bodies and link as bytes
@@ -15,21 +18,27 @@
 #![tactic(auto)]
 
 pub mod as_bytes;
+mod conditions;
 mod explaining;
 mod features;
 mod finding;
 pub mod laws;
 mod links;
 mod pages;
+mod piecing;
 mod planning;
 mod sending;
 
+pub use cad_answer::{Plan, Progress, Search};
 pub use cad_ask::{Ask, AskFault, fault_body};
 pub use cad_history::Snapshot;
 pub use cad_json::{
     collection_body, collections_body, filter_fault_body, landing_body, queryables_body, word_body,
 };
+pub use conditions::condition_count;
 pub use cql_filter::Cause;
 pub use explaining::{Report, explain};
 pub use features::feature_body;
-pub use pages::{body, next_link};
+pub use pages::{body, found_body, next_link};
+pub use piecing::{first_search, page_piece};
+pub use planning::page_plan;

@@ -6,4 +6,8 @@ pub mod PageLemmas
 pub mod LeftLemmas
 pub mod SoughtLemmas
 pub mod SourceLemmas
+pub mod EndLemmas
+pub mod StepLemmas
+pub mod OwedLemmas
+pub mod PlaceLemmas
 pub mod StandingLemmas

@@ -18,7 +18,7 @@ use Rattle.cad_layer.specs.Identifiers.{comes_after}
 use Rattle.cad_layer.specs.lemmas.SearchLemmas.{equal_is}
 use Rattle.cad_run.specs.declared.segment_candidates.SegmentCandidates.{SegmentCandidates}
 use Rattle.cad_run.specs.declared.sought.Sought.{Sought}
-use Rattle.cad_run.specs.SegmentLeft.{opened_left, unopened_left}
+use Rattle.cad_run.specs.SegmentLeft.{opened_left, unopened_ahead, unopened_left}
 use Rattle.cad_run.specs.Slices.{identifier, is_later, later}
 use Rattle.cad_run.specs.Sought.{is_sought}
 use Rattle.cad_run.specs.lemmas.TakenLemmas.{IsTaken, taken_rises, turned}
@@ -69,6 +69,20 @@ module _ (sought : Sought) (after : Option (ObjectId × ℕ)) where
       ∙ ap (later named) (turned l test (joined rest) ∙ ap (filter test) same ∙ sym (turned l test (joined segments)))
       ∙ sym (turned l (is_later named) (filter test (joined segments))))
       ∙ sym (filter-append l (opened_left opened) (unopened_left sought after segments))
+
+  -- the features ahead
+  pub ahead_sought : (last : ℤ × ℤ) (next : ObjectId × ℕ) (opened closer : Option SegmentCandidates) (segments rest : List SegmentFeatures)
+      → ((xs : List Item) → later (Some (identifier next)) xs ≡ later (Some last) (later named xs))
+      → later (Some last) (joined rest) ≡ later (Some last) (joined segments) → opened_left closer ≡ later (Some last) (opened_left opened)
+      → opened_left closer ++ unopened_ahead (Some next) rest ≡ later (Some last) (opened_left opened ++ unopened_ahead after segments)
+  ahead_sought last next opened closer segments rest both same is =
+      let l = is_later (Some last) in
+      ap₂ (λ xs ys. xs ++ ys) is
+      (both (joined rest)
+      ∙ turned l (is_later named) (joined rest)
+      ∙ ap (later named) same
+      ∙ sym (turned l (is_later named) (joined segments)))
+      ∙ sym (filter-append l (opened_left opened) (unopened_ahead after segments))
 
 -- ---- after the first is taken, or an error
 

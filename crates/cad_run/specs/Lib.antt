@@ -8,5 +8,8 @@ pub mod Standing
 pub mod IndexedLeft
 pub mod SegmentLeft
 pub mod Left
+pub mod Counts
+pub mod Steps
+pub mod Owed
 pub mod lemmas
 pub mod inner

@@ -28,3 +28,13 @@ unopened_left sought after segments = later (option_map identifier after) (filte
 -- of both
 abbrev pub segments_left : SegmentsLeft → List Item
 segments_left s = opened_left s.opened ++ unopened_left s.sought s.after s.unopened.now
+
+-- ---- what is ahead
+
+-- the features of the segments whose indexes were not asked, after the one that was named
+abbrev pub unopened_ahead : Option (ObjectId × ℕ) → List SegmentFeatures → List Item
+unopened_ahead after segments = later (option_map identifier after) (joined segments)
+
+-- and before them the candidates that are left of the segment whose indexes were asked
+abbrev pub segments_ahead : SegmentsLeft → List Item
+segments_ahead s = opened_left s.opened ++ unopened_ahead s.after s.unopened.now

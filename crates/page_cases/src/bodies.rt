@@ -1,5 +1,6 @@
 //! Bodies as bytes: those of pages, of one feature, and of faults.
 
+use crate::pieces::misleading_budget;
 use crate::sample::snapshot_at;
 use cad_page::{Ask, AskFault, Snapshot, as_bytes};
 use cad_parameters::read_identifier;
@@ -17,7 +18,11 @@ fn printed(alloc: Global, bytes: Vec<u8>) -> Result<String, AllocError> {
 
 /// The page, and after a space the target of its link to the next one, if it has one.
 pub fn page_answer(alloc: Global, ask: &Ask, snapshot: &Snapshot) -> Result<String, AllocError> {
-    let mut line = printed(alloc, as_bytes::body(alloc, ask, snapshot)?)?;
+    let body = as_bytes::body(alloc, ask, snapshot)?;
+    if let Some(budget) = misleading_budget(alloc, ask, snapshot, &body)? {
+        return format!(in alloc; "another page in pieces of {budget}");
+    }
+    let mut line = printed(alloc, body)?;
     if let Some(target) = as_bytes::next_link(alloc, ask, snapshot)? {
         line.push_str(" ")?;
         line.push_str(printed(alloc, target)?.as_str())?;

@@ -10,7 +10,7 @@ use Rattle.cad_changes.proofs.leaving.candidates_left.Goals as goal
 pub loop-left-init : goal.loop-left-init
 loop-left-init c =
     let of_them = items_left c.args.command.now c.args.features.now.collection in
-    ap of_them (sym c.of-left.ensures)
+    ap of_them (sym c.of-left.ensures.left)
     ∙ ap (λ (xs : List Item). xs ++ of_them (candidates_left c.of-left.result)) (sym c.new-all.ensures.items)
 
 pub loop-left-preserved : goal.loop-left-preserved

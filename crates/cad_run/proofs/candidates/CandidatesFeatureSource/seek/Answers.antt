@@ -8,6 +8,7 @@ invariant_of-self c =
     let last = Some (identifier c.args.last) in
     record {
       apart = c.seek.ensures.apart;
+      in_order = later_rises last _ _ c.seek.ensures.ahead c.args.self.now.in_order;
       ascending = later_rises last _ _ c.seek.ensures.left c.args.self.now.ascending;
       few = few_later last _ _ c.seek.ensures.left c.args.self.now.few;
     }
