@@ -10,7 +10,7 @@ use Rattle.cad_desk.specs.declared.fault.DeskFault.{DeskFault}
 use Rattle.cad_desk.specs.Desks.{IsShutAtDesk, Steps}
 use Rattle.cad_desk.specs.Runs.{IsOnlyChecked}
 use Rattle.cad_clients.specs.declared.channel.Channel.{Channel}
-use Rattle.cad_clients.specs.Channels.{Act, wrote, took, fed, read_in, written_in, Does}
+use Rattle.cad_clients.specs.Channels.{Act, wrote, took, fed, worked, read_in, written_in, Does}
 
 -- a turn of this connection; an event of another connection or of the land office, with its answer; or the land office asked what would be
 -- answered to a command
@@ -44,11 +44,13 @@ abbrev pub events_in : ℕ → Act → List Event → List Event
 events_in c (wrote bytes) later = later
 events_in c (took bytes) later = later
 events_in c (fed piece out ends) later = Bytes c piece ∷ later
+events_in c worked later = later
 
 abbrev pub answers_in : Act → List (Result Reply DeskFault) → List (Result Reply DeskFault)
 answers_in (wrote bytes) later = later
 answers_in (took bytes) later = later
 answers_in (fed piece out ends) later = Ok (Sent out ends) ∷ later
+answers_in worked later = later
 
 abbrev pub events_of : ℕ → List Happening → List Event
 events_of c [] = []
@@ -62,11 +64,11 @@ answers_of (own act ∷ later) = answers_in act (answers_of later)
 answers_of (other event answer ∷ later) = answer ∷ answers_of later
 answers_of (checked ∷ later) = answers_of later
 
-module _ {R : Type 0} (g : Ghosts R) (c : ℕ) where
+module _ {R W : Type 0} (g : Ghosts R) (owes : W → List ℕ) (c : ℕ) where
   -- all this happens, one after the other, and none of it closed the ledger
-  abbrev pub Lives : Desk R → Channel → List Happening → Desk R → Channel → Type 0
+  abbrev pub Lives : Desk R → Channel W → List Happening → Desk R → Channel W → Type 0
   Lives old channel [] new last = (new ≡ old) × (last ≡ channel)
-  Lives old channel (own act ∷ later) new last = (mid : Desk R) × (next : Channel) × Does g c old channel act mid next × Lives mid next later new last
+  Lives old channel (own act ∷ later) new last = (mid : Desk R) × (next : Channel W) × Does g owes c old channel act mid next × Lives mid next later new last
   Lives old channel (other event answer ∷ later) new last =
       (mid : Desk R) × IsOther c event × Steps g old event answer mid × IfErr answer (λ fault. ¬ IsShutAtDesk g old fault mid)
       × Lives mid channel later new last

@@ -32,3 +32,19 @@ pub(crate) fn refuse<N: Network>(net: &mut N, socket: &N::Socket, fault: DeskFau
     tell_fault(net, socket, fault);
     Turned::Over(Ending::Refused(fault))
 }
+
+/// The connection is over, since there is no memory to make the reply that is next. This is reported.
+pub(crate) fn give_up<N: Network, R: Responder>(
+    c: u32,
+    net: &mut N,
+    socket: &N::Socket,
+    desk: &mut Desk<R>,
+) -> Turned
+    ensures over { result ≡ Turned.Over Ending.Unmade }
+    ensures closed { Closes R.Responder c desk.old desk.new }
+    ensures head { AddsSome (N.history net.old) (N.history net.new) (SendsFault (N.name socket.now) DeskFault.Memory) }
+{
+    close(desk, c);
+    tell_fault(net, socket, DeskFault::Memory);
+    Turned::Over(Ending::Unmade)
+}

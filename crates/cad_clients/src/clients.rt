@@ -2,6 +2,7 @@
 
 ghost use Rattle.std.specs.Prelude.{◌≡◌, length};
 
+use crate::budget::Budget;
 use crate::calls::tell_fault;
 use crate::client::Client;
 use crate::limits::Limits;
@@ -10,31 +11,32 @@ use crate::served::{Served, is_over};
 use crate::turned::Turned;
 use cad_desk::{Desk, DeskFault};
 use cad_network::Network;
-use cad_stream::Responder;
+use cad_stream::{Responder, WorkingResponder};
 use std::alloc::{AllocError, Global};
 
 /// The most connections that are open.
 pub const ROOM: u32 = 64;
 
-/// The most turns of a connection before the others have their turns: the rest of a reply, a read, a piece for the desk and its reply.
+/// The most turns of a connection before the others have their turns: a read, a piece for the desk, a piece of work for its reply, and a write.
 const TURNS: u32 = 4;
 
 /// The open connections by their numbers, which are below 64.
 #[derive(Drop)]
-pub struct Clients<S> {
-    slots: Vec<Option<Client<S>>>,
+pub struct Clients<S, W> {
+    slots: Vec<Option<Client<S, W>>>,
     pub ghost room: { length slots.items ≡ 64 },
 }
 
-impl<S: Drop> Clients<S> {
-    ghost use Rattle.std.specs.Prelude.{ℕ, ◌<◌, ◌↔◌, None, Some, IsTrue, IsSome, IsSomeAnd, IfOk, IfSome, option_copied, option_map};
+impl<S: Drop, W: Drop> Clients<S, W> {
+    ghost use Rattle.std.specs.Prelude.{ℕ, ◌<◌, ◌≤◌, ◌+◌, ◌*◌, ◌↔◌, None, Some, IsTrue, IsSome, IsSomeAnd, IfOk, IfSome, option_copied, option_map};
     ghost use Rattle.cad_network.specs.Deeds.{AddsSome};
-    ghost use Rattle.cad_clients.specs.Notes.{marked, IsOverdue, IsSending, MayGoOn};
+    ghost use Rattle.cad_clients.specs.Budgets.{units_of, first_piece, later_piece};
+    ghost use Rattle.cad_clients.specs.Notes.{marked, IsOverdue, IsOwing, IsSending, IsWorking, MayGoOn};
     ghost use Rattle.cad_clients.specs.Slots.{client_at, Changes};
-    ghost use Rattle.cad_clients.specs.Steps.{Opens, HasTurn, Closes, IsServed};
+    ghost use Rattle.cad_clients.specs.Steps.{Opens, HasTurn, Closes, IsServed, IsWorkedOn, HasEnough, left_to_do, worked_at};
 
     /// No connection, and room for 64.
-    pub fn new(alloc: Global) -> Result<Clients<S>, AllocError>
+    pub fn new(alloc: Global) -> Result<Clients<S, W>, AllocError>
         ensures { IfOk result (λ clients. (c : ℕ) → client_at clients c ≡ None) }
     {
         let mut slots = Vec::new(alloc);
@@ -45,7 +47,7 @@ impl<S: Drop> Clients<S> {
     }
 
     /// Takes a connection out of its slot.
-    fn take(&mut self, c: u32) -> Option<Client<S>>
+    fn take(&mut self, c: u32) -> Option<Client<S, W>>
         ensures was { result ≡ client_at self.old c }
         ensures is_number { IsSome result → c < 64 }
         ensures rest { Changes self.old self.new c None }
@@ -58,7 +60,7 @@ impl<S: Drop> Clients<S> {
     }
 
     /// Puts a connection into its slot.
-    fn put(&mut self, c: u32, client: Client<S>)
+    fn put(&mut self, c: u32, client: Client<S, W>)
         requires { c < 64 }
         ensures { Changes self.old self.new c (Some client) }
     {
@@ -106,19 +108,23 @@ impl<S: Drop> Clients<S> {
     }
 
     /// A turn of the connection of this number, if there is one. If it is over, its number is free, and its socket is let go.
-    pub fn turn<N: Network<Socket = S>, R: Responder>(
+    pub fn turn<N: Network<Socket = S>, R: WorkingResponder<Work = W>>(
         &mut self,
         alloc: Global,
         c: u32,
+        budget: Budget,
         now: u64,
         net: &mut N,
         desk: &mut Desk<R>,
+        meter: &mut R::Meter,
     ) -> Option<Turned>
-        ensures { AddsSome (N.history net.old) (N.history net.new)
-            (HasTurn R.Responder N.name c now desk.old self.old result desk.new self.new) }
+        ensures bounded { R.spent meter.new ≤ R.spent meter.old + units_of budget * worked_at result }
+        ensures less { result ≡ Some Turned.Worked → left_to_do R.remaining (client_at self.new c) < left_to_do R.remaining (client_at self.old c) }
+        ensures turn { AddsSome (N.history net.old) (N.history net.new)
+            (HasTurn R.Responder R.owes N.name c now budget desk.old self.old result desk.new self.new) }
     {
         let mut client = self.take(c)?;
-        let turned = client.turn(alloc, c, now, net, desk);
+        let turned = client.turn(alloc, c, budget, now, net, desk, meter);
         if is_over(turned) {
             net.let_go(client.into_socket());
             return Some(turned);
@@ -153,7 +159,7 @@ impl<S: Drop> Clients<S> {
         }
     }
 
-    fn client(&self, c: u32) -> Option<&Client<S>>
+    fn client(&self, c: u32) -> Option<&Client<S, W>>
         ensures { option_copied result ≡ client_at self.now c }
     {
         if c < ROOM {
@@ -163,11 +169,12 @@ impl<S: Drop> Clients<S> {
         }
     }
 
-    /// Whether the socket of this connection may give or take something.
+    /// Whether the socket of this connection may give or take something, and no reply of it has to be worked on first.
     pub fn is_ready(&self, c: u32) -> bool
         ensures { IsTrue result ↔ IsSomeAnd (client_at self.now c) MayGoOn }
     {
-        self.client(c).is_some_and(|client| client.is_ready)
+        self.client(c)
+            .is_some_and(|client| client.is_ready && !client.channel.is_working())
     }
 
     /// Whether a connection has this number.
@@ -177,12 +184,28 @@ impl<S: Drop> Clients<S> {
         self.client(c).is_some()
     }
 
-    /// Whether a reply of this connection has not gone out.
+    /// Whether bytes at hand of this connection have not gone out.
     pub fn is_sending(&self, c: u32) -> bool
         ensures { IsTrue result ↔ IsSomeAnd (client_at self.now c) IsSending }
     {
         self.client(c)
             .is_some_and(|client| !client.channel.sending().is_empty())
+    }
+
+    /// Whether bytes at hand of this connection have not gone out, or replies are owed to it.
+    pub fn is_owing(&self, c: u32) -> bool
+        ensures { IsTrue result ↔ IsSomeAnd (client_at self.now c) IsOwing }
+    {
+        self.client(c).is_some_and(|client| !client.channel.sending().is_empty()
+            || client.channel.owes_more())
+    }
+
+    /// Whether the next reply of this connection is worked on: `work_on` goes on with it.
+    pub fn is_working(&self, c: u32) -> bool
+        ensures { IsTrue result ↔ IsSomeAnd (client_at self.now c) IsWorking }
+    {
+        self.client(c)
+            .is_some_and(|client| client.channel.is_working())
     }
 
     /// Whether the connection did nothing for too long, or one of its requests takes too long.
@@ -193,45 +216,97 @@ impl<S: Drop> Clients<S> {
             .is_some_and(|client| client.is_overdue(now, limits))
     }
 
-    /// Logs what the desk took of a connection and what it sends for that.
-    fn tell<L: AccessLog<S>>(&self, c: u32, log: &mut L) {
+    /// Logs what the desk took of a connection, and the reply to it, if it is made.
+    fn tell_fed<L: AccessLog<S>>(&self, c: u32, log: &mut L) {
         if let Some(client) = self.client(c) {
             log.note(c, client.channel.last_fed(), client.channel.sending());
         }
     }
 
+    /// Logs a reply that was worked on, if it is made.
+    fn tell_made<L: AccessLog<S>>(&self, c: u32, log: &mut L) {
+        if let Some(client) = self.client(c) {
+            log.note(c, &[], client.channel.sending());
+        }
+    }
+
+    /// Whether the connection has no turn left in this visit, in which the desk took a piece or not, and a reply was worked on or not.
+    fn has_enough(&self, c: u32, has_fed: bool, has_worked: bool) -> bool
+        ensures { IsTrue result ↔ HasEnough c has_fed has_worked self.now }
+    {
+        (has_fed && !self.is_owing(c)) || (has_worked && self.is_working(c))
+    }
+
     /// Serves the connection of this number: some turns, up to one at which its socket gives or takes nothing, and not beyond the reply to
-    /// one piece. So each other connection waits for at most one reply.
-    pub fn serve<N: Network<Socket = S>, R: Responder, L: AccessLog<S>>(
+    /// one piece, nor beyond a first piece of work for it. So each other connection waits for at most one such piece and one reply.
+    pub fn serve<N: Network<Socket = S>, R: WorkingResponder<Work = W>, L: AccessLog<S>>(
         &mut self,
         alloc: Global,
         c: u32,
         now: u64,
         net: &mut N,
         desk: &mut Desk<R>,
+        meter: &mut R::Meter,
         log: &mut L,
     ) -> Served
-        ensures { AddsSome (N.history net.old) (N.history net.new)
-            (IsServed R.Responder N.name c now desk.old self.old result desk.new self.new) }
+        ensures bounded { R.spent meter.new ≤ R.spent meter.old + first_piece }
+        ensures served { AddsSome (N.history net.old) (N.history net.new)
+            (IsServed R.Responder R.owes N.name c now desk.old self.old result desk.new self.new) }
     {
         let mut has_fed = false;
+        let mut has_worked = false;
         for _ in 0..TURNS {
-            if has_fed && !self.is_sending(c) {
+            if self.has_enough(c, has_fed, has_worked) {
                 return Served::Stays;
             }
-            let Some(turned) = self.turn(alloc, c, now, net, desk) else {
+            let Some(turned) = self.turn(alloc, c, Budget::First, now, net, desk, meter) else {
                 return Served::Unknown;
             };
             match turned {
                 Turned::Wrote | Turned::Took => {}
                 Turned::Fed => {
-                    self.tell(c, log);
+                    self.tell_fed(c, log);
                     has_fed = true;
+                }
+                Turned::Worked => {
+                    self.tell_made(c, log);
+                    has_worked = true;
                 }
                 Turned::Waits => return Served::Stays,
                 Turned::Over(ending) => return Served::Over(ending),
             }
         }
         Served::Stays
+    }
+
+    /// One later piece of work for the next reply of this connection, if it is worked on. `Unknown` means that it is not.
+    pub fn work_on<N: Network<Socket = S>, R: WorkingResponder<Work = W>, L: AccessLog<S>>(
+        &mut self,
+        alloc: Global,
+        c: u32,
+        now: u64,
+        net: &mut N,
+        desk: &mut Desk<R>,
+        meter: &mut R::Meter,
+        log: &mut L,
+    ) -> Served
+        ensures bounded { R.spent meter.new ≤ R.spent meter.old + later_piece }
+        ensures less { result ≡ Served.Stays → left_to_do R.remaining (client_at self.new c) < left_to_do R.remaining (client_at self.old c) }
+        ensures worked { AddsSome (N.history net.old) (N.history net.new)
+            (IsWorkedOn R.Responder R.owes N.name c now desk.old self.old result desk.new self.new) }
+    {
+        if !self.is_working(c) {
+            return Served::Unknown;
+        }
+        let Some(turned) = self.turn(alloc, c, Budget::Later, now, net, desk, meter) else {
+            return Served::Unknown;
+        };
+        match turned {
+            Turned::Over(ending) => Served::Over(ending),
+            Turned::Wrote | Turned::Took | Turned::Fed | Turned::Worked | Turned::Waits => {
+                self.tell_made(c, log);
+                Served::Stays
+            }
+        }
     }
 }

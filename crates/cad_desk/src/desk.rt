@@ -1,8 +1,10 @@
 //! The desk.
 
-use crate::event::{Event, Outgoing, Reply};
+use crate::event::{Event, Outgoing, Owing, Reply, SentBytes};
 use crate::fault::DeskFault;
-use cad_stream::{Connection, Fed, JournalResponder, Responder, Summary};
+use cad_stream::{
+    Connection, Fed, FedBegun, JournalResponder, Responder, Summary, WorkingResponder,
+};
 use cad_versions::{Command, RegisterFault};
 use std::alloc::Global;
 use std::collections::HashMap;
@@ -90,6 +92,7 @@ impl<R: Responder> Desk<R> {
             Ok(fed) => fed,
             Err(fault) => return Err(DeskFault::from(fault)),
         };
+        let bytes = SentBytes::new(bytes);
         match connection {
             None => Ok(Outgoing { bytes, ends: true }),
             Some(connection) => match self.connections.insert(c, connection) {
@@ -144,6 +147,37 @@ impl<R: Responder> Desk<R> {
             Event::Office(command) => match self.enter(command) {
                 Ok(revision) => Ok(Reply::Entered(revision)),
                 Err(fault) => Err(DeskFault::from(fault)),
+            },
+        }
+    }
+}
+
+impl<R: WorkingResponder> Desk<R> {
+    ghost use Rattle.cad_desk.specs.declared.event.Event.TheVariants.{Bytes};
+    ghost use Rattle.cad_desk.specs.Calls.{begun};
+    ghost use Rattle.cad_desk.specs.Desks.{Steps};
+
+    /// Takes a piece of a connection's bytes, and begins the requests that it completes. The event is over with that: it is answered with the
+    /// bytes that are owed, with the commands in force now. If the piece is refused, the connection is closed.
+    pub fn begin(&mut self, c: u32, piece: Vec<u8>) -> Result<Owing<R::Work>, DeskFault>
+        ensures { Steps R.Responder self.old (Bytes c piece) (begun R.owes result) self.new }
+    {
+        let Some(open) = self.connections.remove(&c) else {
+            return Err(DeskFault::UnknownConnection);
+        };
+        let FedBegun { parts, connection } = match open.begin(
+            self.alloc,
+            piece,
+            &mut self.responder,
+        ) {
+            Ok(begun) => begun,
+            Err(refused) => return Err(DeskFault::from(refused)),
+        };
+        match connection {
+            None => Ok(Owing { parts, ends: true }),
+            Some(connection) => match self.connections.insert(c, connection) {
+                Ok(_) => Ok(Owing { parts, ends: false }),
+                Err(_) => Err(DeskFault::Memory),
             },
         }
     }

@@ -2,9 +2,11 @@
 
 ghost use Rattle.cad_head.specs.Heads.{IsIncomplete};
 
+use crate::beginning::begin_requests;
 use crate::joining::joined;
 use crate::replies::reply_to_requests;
 use crate::responder::Responder;
+use crate::working_responder::{Part, WorkingResponder};
 use cad_head::may_settle;
 use cad_versions::RegisterFault;
 use std::alloc::Global;
@@ -26,7 +28,17 @@ pub struct Fed {
     pub connection: Option<Connection>,
 }
 
+/// The result of a piece whose requests were begun.
+#[derive(Debug, Drop)]
+pub struct FedBegun<W> {
+    /// The replies or what is left for them, one after the other.
+    pub parts: Vec<Part<W>>,
+    /// The connection after it, if it did not end.
+    pub connection: Option<Connection>,
+}
+
 impl Connection {
+    ghost use Rattle.cad_stream.specs.Begins.{Begins};
     ghost use Rattle.std.specs.Prelude.{◌≡◌, []};
     ghost use Rattle.cad_stream.specs.Feeding.{bytes_held, Feeds};
 
@@ -70,7 +82,41 @@ impl Connection {
             }
         };
         Ok(Fed {
-            bytes: replies.bytes,
+            bytes: replies.out,
+            connection,
+        })
+    }
+
+    /// Takes the next piece, and begins each request that is now complete, one after the other. What is owed is what `feed` would answer now,
+    /// whatever happens until it is made.
+    pub fn begin<R: WorkingResponder>(
+        self,
+        alloc: Global,
+        piece: Vec<u8>,
+        responder: &mut R,
+    ) -> Result<FedBegun<R::Work>, RegisterFault>
+        ensures { Begins R.Responder R.owes (bytes_held self) piece.items responder.old result responder.new }
+    {
+        let Connection { held } = self;
+        let settles = may_settle(&held, &piece);
+        let mut all = joined(held, piece)?;
+        if !settles {
+            return Ok(FedBegun {
+                parts: Vec::new(alloc),
+                connection: Some(Connection { held: all }),
+            });
+        }
+        let begun = begin_requests(alloc, &all, responder)?;
+        let connection = match begun.used {
+            None => None,
+            Some(used) => {
+                drop(all.drain(..used));
+                let rest = Connection { held: all };
+                Some(rest)
+            }
+        };
+        Ok(FedBegun {
+            parts: begun.out,
             connection,
         })
     }

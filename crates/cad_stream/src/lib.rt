@@ -6,6 +6,8 @@
 //! - `Answer`: the reply to one request
 //! - `Connection`: the bytes of a connection that no request took yet, and the result of the next piece
 //! - `Fed`: the replies to a piece, and the connection after it
+//! - `WorkingResponder`: a responder whose answers are begun, and then made in pieces of work; `Begun`, `Part`: what is left for one
+//! - `FedBegun`: the replies to a piece, as far as they are made, and the connection after it; `finish` makes one at once
 //! - `laws`: what holds of every connection, no matter how its bytes were cut
 //!
 //! A connection that sends two requests in two pieces, where the second request closes it:
@@ -22,16 +24,22 @@
 #![tactic(auto)]
 
 mod answer;
+mod beginning;
 mod connection;
+mod finishing;
 mod joining;
 mod journal_responder;
 pub mod laws;
+mod next;
 mod replies;
 mod responder;
 mod summary;
+mod working_responder;
 
 pub use answer::Answer;
-pub use connection::{Connection, Fed};
+pub use connection::{Connection, Fed, FedBegun};
+pub use finishing::finish;
 pub use journal_responder::JournalResponder;
 pub use responder::Responder;
 pub use summary::{Summary, VersionCounts};
+pub use working_responder::{Begun, Part, WorkingResponder};

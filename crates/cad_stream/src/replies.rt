@@ -5,34 +5,15 @@ ghost use Rattle.cad_stream.specs.Feeding.{IsNext, RepliesTo};
 
 use crate::answer::Answer;
 use crate::joining::joined;
+use crate::next::{Next, Replies};
 use crate::responder::Responder;
 use cad_head::{FIELD_ROOM, HeadState, front_bytes, front_of};
 use cad_versions::RegisterFault;
 use httparse::spans::EMPTY_HEADER_SPAN;
 use std::alloc::Global;
 
-/// What bytes begin with.
-#[derive(Debug, Drop)]
-pub(crate) enum Next {
-    /// A request may still come.
-    Waiting,
-    /// No request can come, and this is the reply to that.
-    Hopeless(Vec<u8>),
-    /// The answer to a request whose head has `used` bytes.
-    Answered { answer: Answer, used: usize },
-}
-
-/// The replies to bytes.
-#[derive(Debug, Drop)]
-pub(crate) struct Replies {
-    /// The replies, one after the other.
-    pub(crate) bytes: Vec<u8>,
-    /// How many bytes were answered, if the connection still waits.
-    pub(crate) used: Option<usize>,
-}
-
 /// The answer to the request that the bytes begin with.
-fn answer_next<R: Responder>(bytes: &[u8], responder: &mut R) -> Result<Next, RegisterFault>
+fn answer_next<R: Responder>(bytes: &[u8], responder: &mut R) -> Result<Next<Answer>, RegisterFault>
     ensures { IsNext R.Responder bytes.now responder.old result responder.new }
 {
     let mut headers = [EMPTY_HEADER_SPAN; FIELD_ROOM];
@@ -52,7 +33,7 @@ fn answer_next<R: Responder>(bytes: &[u8], responder: &mut R) -> Result<Next, Re
     }
 }
 
-fn rest_from(bytes: &[u8], count: usize) -> &[u8]
+pub(crate) fn rest_from(bytes: &[u8], count: usize) -> &[u8]
     requires { count ≤ length bytes.now }
     ensures { result.now ≡ drop count bytes.now }
 {
@@ -64,7 +45,7 @@ pub(crate) fn reply_to_requests<R: Responder>(
     alloc: Global,
     bytes: &[u8],
     responder: &mut R,
-) -> Result<Replies, RegisterFault>
+) -> Result<Replies<Vec<u8>>, RegisterFault>
     ensures { RepliesTo R.Responder bytes.now responder.old result responder.new }
 {
     let mut replies = Vec::new(alloc);
@@ -73,13 +54,13 @@ pub(crate) fn reply_to_requests<R: Responder>(
         match answer_next(rest_from(bytes, used), responder)? {
             Next::Waiting => {
                 return Ok(Replies {
-                    bytes: replies,
+                    out: replies,
                     used: Some(used),
                 });
             }
             Next::Hopeless(reply) => {
                 return Ok(Replies {
-                    bytes: joined(replies, reply)?,
+                    out: joined(replies, reply)?,
                     used: None,
                 });
             }
@@ -88,7 +69,7 @@ pub(crate) fn reply_to_requests<R: Responder>(
                 replies = joined(replies, reply)?;
                 if ends {
                     return Ok(Replies {
-                        bytes: replies,
+                        out: replies,
                         used: None,
                     });
                 }

@@ -10,6 +10,7 @@ use cad_desk::Desk;
 use cad_event_loop::{Stopped, host};
 use std::alloc::{AllocError, Global};
 use std::io::Result as IoResult;
+use test_support::Units;
 
 fn stopped_name(hosted: &IoResult<Stopped>) -> &'static str {
     match hosted {
@@ -31,7 +32,8 @@ fn put_peer(answer: &mut String, peer: &Peer) -> Result<(), AllocError> {
 pub(crate) fn put_hosted(answer: &mut String, alloc: Global, text: &str) -> Result<(), AllocError> {
     let mut wire = Wire::new(alloc, read_steps(alloc, text)?);
     let mut desk = Desk::new(alloc, Refusing::new(alloc));
-    let hosted = host(alloc, &mut wire, &mut desk, &mut NoLog);
+    let mut units = Units::default();
+    let hosted = host(alloc, &mut wire, &mut desk, &mut units, &mut NoLog);
     answer.push_str(stopped_name(&hosted))?;
     for peer in &wire.world.peers {
         put_peer(answer, peer)?;

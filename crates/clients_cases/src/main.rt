@@ -13,7 +13,8 @@
 //! - `open`, a client comes: `N opened`, by its number, or `full`;
 //! - `give N TEXT`, it sends this text, in which `|` means CR and LF; `long N COUNT`, it sends so many bytes `a`;
 //! - `room N COUNT`, its socket takes so many more bytes; `hang N`, it sends no more; `break N`, reads and writes fail;
-//! - `serve N`, it is served: how that ended, what was written to it, and `sending` if a reply is not fully written;
+//! - `serve N`, it is served: how that ended, what was written to it, `sending` if a reply is not fully written, and `working` if one is
+//!   not made; `work N`, it is worked on: how many units of work that was, and the same;
 //! - `second N`, it is second N: the numbers of the clients that are dropped for it;
 //! - `line TEXT`, the office sends a line; `part TEXT`, it sends a part of one; `office-room COUNT`, its socket takes so many more bytes;
 //!   `office`, it is served: how that ended, and what was written to it.
@@ -24,8 +25,8 @@
 //!   `unwatched COUNT`: so many times a client cannot be handed over, or a socket cannot be watched. The answer is how hosting ended, what
 //!   was written to each, and whether its socket was let go.
 //!
-//! In what was written `|` means LF. A request is answered with its method, its target and the revision in force. Any other line is
-//! answered by `no case`. An empty one is skipped, and so is one that begins with `#`.
+//! In what was written `|` means LF. A request is answered with its method, its target and the revision in force. The reply to `/units/N`
+//! takes N units of work, and for that to `/unmade/N` there is no memory in the end. Any other line is answered by `no case`. An empty one is skipped, and so is one that begins with `#`.
 #![tactic(auto)]
 
 mod history;

@@ -3,11 +3,11 @@
 ghost use Rattle.clients_cases.specs.Refusing.{StandsFor};
 
 use cad_memory_ledger::MemoryReading;
-use cad_stream::{Answer, JournalResponder, Responder, Summary};
+use cad_stream::{Answer, Begun, JournalResponder, Part, Responder, Summary, WorkingResponder};
 use cad_versions::{Command, RegisterFault};
 use httparse::spans::{HeaderSpan, RequestSpans};
 use std::alloc::{AllocError, Global};
-use test_support::Echo;
+use test_support::{Echo, Echoing, Units};
 
 /// The object whose commands the database refuses.
 const REFUSED: u32 = 6;
@@ -122,6 +122,38 @@ impl Responder for Refusing {
 
     #[tactic(auto, using(test_support::specs::Echoes::one_echo))]
     fn one_reply() {}
+}
+
+impl WorkingResponder for Refusing {
+    ghost use Rattle.test_support.specs.Echoes.{owed, left_of, done_in};
+
+    type Work = Echoing;
+
+    ghost owes = { owed };
+
+    ghost remaining = { left_of };
+
+    type Meter = Units;
+
+    ghost spent = { done_in };
+
+    fn begin(
+        &mut self,
+        bytes: &[u8],
+        headers: &[HeaderSpan],
+        spans: &RequestSpans,
+    ) -> Result<Begun<Echoing>, RegisterFault> {
+        self.echo.begin(bytes, headers, spans)
+    }
+
+    fn go_on(
+        alloc: Global,
+        work: Echoing,
+        budget: u32,
+        meter: &mut Units,
+    ) -> Result<Part<Echoing>, AllocError> {
+        Echo::go_on(alloc, work, budget, meter)
+    }
 }
 
 impl JournalResponder for Refusing {

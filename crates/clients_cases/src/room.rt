@@ -7,7 +7,7 @@ use cad_desk::Desk;
 use cad_memory_ledger::MemoryReading;
 use cad_office_socket::{Entry, EntryTurned, Figures};
 use std::alloc::{AllocError, Global};
-use test_support::Echo;
+use test_support::{Echo, Echoing, Units};
 
 /// How long clients may take, in seconds.
 const LIMITS: Limits = Limits {
@@ -20,7 +20,8 @@ const LIMITS: Limits = Limits {
 pub(crate) struct Room {
     pub(crate) alloc: Global,
     desk: Desk<Echo>,
-    clients: Clients<u32>,
+    clients: Clients<u32, Echoing>,
+    units: Units,
     wire: Wire,
     /// The number of each client's peer.
     names: Vec<Option<u32>>,
@@ -57,6 +58,7 @@ impl Room {
             alloc,
             desk: Desk::new(alloc, Echo::new(alloc)),
             clients,
+            units: Units::default(),
             wire,
             names,
             entry: Entry::new(alloc),
@@ -110,9 +112,14 @@ impl Room {
         self.wire.peer(self.office)
     }
 
-    /// Whether a reply of this client is not fully written.
+    /// Whether bytes of a reply of this client that are made are not written.
     pub(crate) fn is_sending(&self, c: u32) -> bool {
         self.clients.is_sending(c)
+    }
+
+    /// Whether a reply of this client is worked on.
+    pub(crate) fn is_working(&self, c: u32) -> bool {
+        self.clients.is_working(c)
     }
 
     /// Serves a client. Also returns what was written to it since it was served last.
@@ -126,6 +133,7 @@ impl Room {
             self.now,
             &mut self.wire,
             &mut self.desk,
+            &mut self.units,
             &mut NoLog,
         );
         let written = take_written(self.alloc, self.wire.peer(name));
@@ -133,6 +141,28 @@ impl Room {
             self.set_name(c, None);
         }
         (served, written)
+    }
+
+    /// Goes on with the reply of a client. Also returns how many units of work that was, and what was written to it since it was served last.
+    pub(crate) fn work_on(&mut self, c: u32) -> (Served, u64, Vec<u8>) {
+        let before = self.units.done;
+        let served = self.clients.work_on(
+            self.alloc,
+            c,
+            self.now,
+            &mut self.wire,
+            &mut self.desk,
+            &mut self.units,
+            &mut NoLog,
+        );
+        let written = match self.name(c) {
+            Some(name) => take_written(self.alloc, self.wire.peer(name)),
+            None => Vec::new(self.alloc),
+        };
+        if matches!(served, Served::Over(_)) {
+            self.set_name(c, None);
+        }
+        (served, self.units.done.saturating_sub(before), written)
     }
 
     /// Drops a client, if it did nothing for too long or a request of it takes too long.

@@ -34,6 +34,7 @@ fn ending_name(ending: Ending) -> &'static str {
         Ending::PeerEnded => "PeerEnded",
         Ending::WeEnded => "WeEnded",
         Ending::Refused(_) => "Refused",
+        Ending::Unmade => "Unmade",
         Ending::ReadFailed => "ReadFailed",
         Ending::WriteFailed => "WriteFailed",
     }
@@ -92,11 +93,29 @@ fn put_turn(
     answer.push(']')
 }
 
+/// What is left to be done for the reply of a client.
+fn left_name(room: &Room, c: u32) -> &'static str {
+    if room.is_sending(c) {
+        " sending"
+    } else if room.is_working(c) {
+        " working"
+    } else {
+        ""
+    }
+}
+
 fn put_served(answer: &mut String, room: &mut Room, c: u32) -> Result<(), AllocError> {
     write!(answer, "{c} ")?;
     let (served, taken) = room.serve(c);
-    let sending = if room.is_sending(c) { " sending" } else { "" };
-    put_turn(answer, served_name(served), sending, &taken)
+    put_turn(answer, served_name(served), left_name(room, c), &taken)
+}
+
+/// Appends how many units of work were done, and what was written.
+fn put_worked(answer: &mut String, room: &mut Room, c: u32) -> Result<(), AllocError> {
+    write!(answer, "{c} ")?;
+    let (served, units, taken) = room.work_on(c);
+    write!(answer, "{units} units ")?;
+    put_turn(answer, served_name(served), left_name(room, c), &taken)
 }
 
 fn put_office(answer: &mut String, room: &mut Room) -> Result<(), AllocError> {
@@ -195,6 +214,7 @@ fn put_words(
     };
     match word {
         "serve" => put_served(answer, room, c),
+        "work" => put_worked(answer, room, c),
         "second" => put_dropped(answer, room, u64::from(c)),
         "give" | "long" | "room" | "hang" | "break" => at_peer_of(answer, room, word, c, text),
         _ => at_office(answer, room, word, rest),

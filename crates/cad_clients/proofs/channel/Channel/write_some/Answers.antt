@@ -1,5 +1,6 @@
 use Rattle.std.proofs.Common.{◌<◌, ◌≤◌, length, take, drop, refl, arith, length-take}
-use Rattle.cad_clients.proofs.ChannelLemmas.{goes_on_at}
+use Rattle.cad_clients.proofs.ChannelLemmas.{goes_on_before}
+use Rattle.cad_stream.specs.Beginning.{told_all}
 use Rattle.cad_clients.proofs.channel.Channel.write_some.Goals as goal
 
 pub returns-in-Ok : goal.returns-in-Ok
@@ -12,4 +13,4 @@ returns-in-Ok g c =
     let no_zero = c.in-Ok.count-test.1 in
     let taken = length-take c.in-Ok.count held in
     let some : 0 < length bytes = omega (arith, within, no_zero, taken) in
-    (_, told, (bytes, refl, some, (goes_on_at channel.output_at c.in-Ok.count channel.output.items, refl, refl, refl)))
+    (_, told, (bytes, refl, some, c.requires, (goes_on_before channel.output_at c.in-Ok.count channel.output.items (told_all g.R.WorkingResponder.owes channel.parts.items), refl, refl, refl)))
