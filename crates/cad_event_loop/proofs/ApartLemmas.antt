@@ -4,12 +4,13 @@ use Rattle.std.proofs.lemmas.Bool.{eqb-true}
 use Rattle.cad_stream.specs.declared.responder.Responder.{Ghosts}
 use Rattle.cad_stream.specs.declared.journal_responder.JournalResponder.{Ghosts as JournalGhosts}
 use Rattle.cad_desk.specs.declared.desk.Desk.{Desk}
+use Rattle.cad_desk.specs.declared.fault.DeskFault.TheVariants.{Memory}
 use Rattle.cad_network.specs.Deeds.{Deed, woke, gave, left, given_by, taken_by, comes, IsQuiet}
 use Rattle.cad_network.specs.lemmas.DeedLemmas.{given_by-append, taken_by-append, quiet-append, comes-append, or_none, gave_apart, took_apart}
 use Rattle.cad_clients.specs.declared.channel.Channel.{Channel}
 use Rattle.cad_clients.specs.declared.turned.Ending.{Ending}
-use Rattle.cad_clients.specs.declared.turned.Ending.TheVariants.{PeerEnded, WeEnded, Refused, ReadFailed, WriteFailed}
-use Rattle.cad_clients.specs.Channels.{Act, wrote, took, fed, EndsSo}
+use Rattle.cad_clients.specs.declared.turned.Ending.TheVariants.{PeerEnded, WeEnded, Refused, Unmade, ReadFailed, WriteFailed}
+use Rattle.cad_clients.specs.Channels.{Act, wrote, took, fed, worked, EndsSo}
 use Rattle.cad_event_loop.specs.Works.{Held, AtOffice, AtOffices, Place, Puts, Same, Said, Work, wakes, opens, acts, waits, ends, office_comes, enters, office_leaves, aside, is_last, deeds_in, all_deeds, Leaves, Works, Goes}
 use Rattle.cad_event_loop.specs.Lives.{own_deeds}
 use Rattle.cad_office_socket.specs.declared.entry.Entry.{Entry}
@@ -23,25 +24,26 @@ pub act_quiet : (s t : ℕ) (act : Act) → nat_eq t s ≡ false → IsQuiet s (
 act_quiet s t (wrote bytes) e = took_apart s t bytes e
 act_quiet s t (took bytes) e = gave_apart s t bytes e
 act_quiet s t (fed piece out over) e = (refl, refl)
+act_quiet s t worked e = (refl, refl)
 
 -- no connection has this socket, or connection c alone has it; and none of the land office
-abbrev pub NotIn : ℕ → Held → Type 0
-NotIn s slots = (d : ℕ) (channel : Channel) → slots d ≡ Some (s, channel) → ⊥
+abbrev pub NotIn : {W : Type 0} → ℕ → Held W → Type 0
+NotIn {W} s slots = (d : ℕ) (channel : Channel W) → slots d ≡ Some (s, channel) → ⊥
 
-abbrev pub OnceIn : ℕ → ℕ → Held → Type 0
-OnceIn s c slots = (d : ℕ) (channel : Channel) → slots d ≡ Some (s, channel) → d ≡ c
+abbrev pub OnceIn : {W : Type 0} → ℕ → ℕ → Held W → Type 0
+OnceIn {W} s c slots = (d : ℕ) (channel : Channel W) → slots d ≡ Some (s, channel) → d ≡ c
 
 abbrev pub NotOffice : {J : Type 0} → ℕ → AtOffices J → Type 0
 NotOffice {J} s offices = (k : ℕ) (entry : Entry J) → offices k ≡ Some (s, entry) → ⊥
 
-abbrev pub NotHeld : {J : Type 0} → ℕ → Place J → Type 0
+abbrev pub NotHeld : {J W : Type 0} → ℕ → Place J W → Type 0
 NotHeld s place = NotIn s place.slots × NotOffice s place.offices
 
-abbrev pub HeldOnce : {J : Type 0} → ℕ → ℕ → Place J → Type 0
+abbrev pub HeldOnce : {J W : Type 0} → ℕ → ℕ → Place J W → Type 0
 HeldOnce s c place = OnceIn s c place.slots × NotOffice s place.offices
 
-same_name : (t s : ℕ) (channel other : Channel) → ◌≡◌ {A = Option (ℕ × Channel)} (Some (t, channel)) (Some (s, other)) → t ≡ s
-same_name t s channel other e = ap (λ (p : ℕ × Channel). p.0) (one_some {X = ℕ × Channel} (t, channel) (s, other) e)
+same_name : {W : Type 0} (t s : ℕ) (channel other : Channel W) → ◌≡◌ {A = Option (ℕ × Channel W)} (Some (t, channel)) (Some (s, other)) → t ≡ s
+same_name {W} t s channel other e = ap (λ (p : ℕ × Channel W). p.0) (one_some {X = ℕ × Channel W} (t, channel) (s, other) e)
 
 -- a name that differs
 pub differs : (t s : ℕ) → (t ≡ s → ⊥) → nat_eq t s ≡ false
@@ -52,23 +54,23 @@ differs t s unlike = go (nat_eq t s) refl
     go false e = e
 
 -- where slot d has another name, or none, that name is not held since
-pub puts_other : (s d t : ℕ) (channel : Channel) (slots next : Held) → nat_eq t s ≡ false → Puts slots next d (Some (t, channel)) → NotIn s slots → NotIn s next
+pub puts_other : {W : Type 0} (s d t : ℕ) (channel : Channel W) (slots next : Held W) → nat_eq t s ≡ false → Puts slots next d (Some (t, channel)) → NotIn s slots → NotIn s next
 puts_other s d t channel slots next e puts not f other at = go (nat_eq d f) refl
   where
     go : (same : Bool) → nat_eq d f ≡ same → ⊥
     go true h = apart t s e (same_name t s channel other (sym (puts f ∙ rw h refl) ∙ at))
     go false h = not f other (sym (puts f ∙ rw h refl) ∙ at)
 
-pub puts_none : (s d : ℕ) (slots next : Held) → Puts slots next d None → NotIn s slots → NotIn s next
-puts_none s d slots next puts not f other at = go (nat_eq d f) refl
+pub puts_none : {W : Type 0} (s d : ℕ) (slots next : Held W) → Puts slots next d None → NotIn s slots → NotIn s next
+puts_none {W} s d slots next puts not f other at = go (nat_eq d f) refl
   where
     go : (same : Bool) → nat_eq d f ≡ same → ⊥
-    go true h = none_some {X = ℕ × Channel} (s, other) (sym (puts f ∙ rw h refl) ∙ at)
+    go true h = none_some {X = ℕ × Channel W} (s, other) (sym (puts f ∙ rw h refl) ∙ at)
     go false h = not f other (sym (puts f ∙ rw h refl) ∙ at)
 
-module _ {R J : Type 0} (g : Ghosts R) (jg : JournalGhosts R J) where
+module _ {R J W : Type 0} (g : Ghosts R) (jg : JournalGhosts R J) (owes : W → List ℕ) where
   -- the end of a connection whose socket is t
-  end_quiet : (s c t : ℕ) (old new : Desk R) (channel : Channel) (ending : Ending) (deeds : List Deed) → nat_eq t s ≡ false → EndsSo g c t old channel ending new deeds → IsQuiet s deeds
+  end_quiet : (s c t : ℕ) (old new : Desk R) (channel : Channel W) (ending : Ending) (deeds : List Deed) → nat_eq t s ≡ false → EndsSo g c t old channel ending new deeds → IsQuiet s deeds
   end_quiet s c t old new channel PeerEnded deeds e x = rw x.0 (gave_apart s t [] e)
   end_quiet s c t old new channel WeEnded deeds e x = rw x.0 (refl, refl)
   end_quiet s c t old new channel (Refused fault) deeds e x =
@@ -81,13 +83,14 @@ module _ {R J : Type 0} (g : Ghosts R) (jg : JournalGhosts R J) where
               | inr unkept ↦ rw unkept.1 (quiet-append s (gave t unkept.0 ∷ []) x.1.0 (gave_apart s t unkept.0 e) told)
             ]
       ]
+  end_quiet s c t old new channel Unmade deeds e x = told_quiet s t Memory deeds x.1 e
   end_quiet s c t old new channel ReadFailed deeds e x = rw x.0 (refl, refl)
   end_quiet s c t old new channel WriteFailed deeds e x = elim x.0 [
     | inl same ↦ rw same (refl, refl)
     | inr none ↦ rw none (took_apart s t [] e)
   ]
 
-  pub leaves_quiet : (s c t : ℕ) (old new : Desk R) (channel : Channel) (cause : Option Ending) (deeds : List Deed) → nat_eq t s ≡ false → Leaves g jg c t old channel cause deeds new → IsQuiet s deeds
+  pub leaves_quiet : (s c t : ℕ) (old new : Desk R) (channel : Channel W) (cause : Option Ending) (deeds : List Deed) → nat_eq t s ≡ false → Leaves g c t old channel cause deeds new → IsQuiet s deeds
   leaves_quiet s c t old new channel (Some ending) deeds e x = rw x.1 (quiet-append s x.0 (left t ∷ []) (end_quiet s c t old new channel ending x.0 e x.2) (refl, refl))
   leaves_quiet s c t old new channel None deeds e x = rw x.0 (refl, refl)
 
@@ -143,11 +146,11 @@ module _ {R J : Type 0} (g : Ghosts R) (jg : JournalGhosts R J) where
       last_quiet false = (refl, refl)
 
   -- all of it
-  enters_quiet : (s o k : ℕ) (old new : Desk R) (here next : Place J) (text : List ℕ) (turned : EntryTurned) (deeds : List Deed) (said : Said) → NotOffice s here.offices → Works g jg old here (enters o k text turned deeds said) new next → IsQuiet s deeds
+  enters_quiet : (s o k : ℕ) (old new : Desk R) (here next : Place J W) (text : List ℕ) (turned : EntryTurned) (deeds : List Deed) (said : Said) → NotOffice s here.offices → Works g jg owes old here (enters o k text turned deeds said) new next → IsQuiet s deeds
   enters_quiet s o k old new here next text turned deeds said not w =
       enters_apart s o old new w.0 w.1 turned deeds w.2 (differs o s (λ same. not k w.0 (w.3 ∙ ap (λ (n : ℕ). Some (n, w.0)) same))) w.5 w.4
 
-  office_stays : (s o k : ℕ) (old new : Desk R) (here next : Place J) (text : List ℕ) (turned : EntryTurned) (deeds : List Deed) (said : Said) → NotOffice s here.offices → Works g jg old here (enters o k text turned deeds said) new next → NotOffice s next.offices
+  office_stays : (s o k : ℕ) (old new : Desk R) (here next : Place J W) (text : List ℕ) (turned : EntryTurned) (deeds : List Deed) (said : Said) → NotOffice s here.offices → Works g jg owes old here (enters o k text turned deeds said) new next → NotOffice s next.offices
   office_stays s o k old new here next text turned deeds said not w j entry at = own (nat_eq k j) refl
     where
       go : (last : Bool) → ◌≡◌ {A = AtOffice J} (if◌then◌else◌ {A = AtOffice J} last None (Some (o, w.1))) (Some (s, entry)) → ⊥
@@ -178,13 +181,13 @@ module _ {R J : Type 0} (g : Ghosts R) (jg : JournalGhosts R J) where
   pub kept_office : (s : ℕ) (old new : AtOffices J) → Same old new → NotOffice s old → NotOffice s new
   kept_office s old new same not k entry at = not k entry (sym (same k) ∙ at)
 
-  pub kept_slots : (s : ℕ) (old new : Held) → Same old new → NotIn s old → NotIn s new
+  pub kept_slots : (s : ℕ) (old new : Held W) → Same old new → NotIn s old → NotIn s new
   kept_slots s old new same not d channel at = not d channel (sym (same d) ∙ at)
 
   -- bytes pass at no socket that nobody has and that does not come
-  pub unheld : (s : ℕ) (works : List Work) (old new : Desk R) (here next : Place J) → Goes g jg old here works new next → NotHeld s here → comes s (all_deeds works) ≡ false
+  pub unheld : (s : ℕ) (works : List Work) (old new : Desk R) (here next : Place J W) → Goes g jg owes old here works new next → NotHeld s here → comes s (all_deeds works) ≡ false
       → IsQuiet s (all_deeds works) × NotHeld s next
-  unheld s [] old new here next goes not none = ((refl, refl), subst (λ (h : Place J). NotHeld s h) (sym goes.1) not)
+  unheld s [] old new here next goes not none = ((refl, refl), subst (λ (h : Place J W). NotHeld s h) (sym goes.1) not)
   unheld s (wakes places ∷ later) old new here next goes not none =
       let later_none = or_none (comes s (map woke places)) (comes s (all_deeds later)) (sym (comes-append s (map woke places) (all_deeds later)) ∙ none) in
       let rest = unheld s later goes.0 new goes.1 next goes.3 (kept_slots s here.slots goes.1.slots goes.2.1 not.0, kept_office s here.offices goes.1.offices goes.2.2 not.1) later_none.1 in
@@ -193,7 +196,7 @@ module _ {R J : Type 0} (g : Ghosts R) (jg : JournalGhosts R J) where
       let apart_from = or_none (nat_eq t s) (comes s (all_deeds later)) none in
       let rest = unheld s later goes.0 new goes.1 next goes.3 (puts_other s d t goes.2.0 here.slots goes.1.slots apart_from.0 goes.2.4 not.0, kept_office s here.offices goes.1.offices goes.2.5 not.1) apart_from.1 in
       (rest.0, rest.1)
-  unheld s (acts t d act ∷ later) old new here next goes not none =
+  unheld s (acts t d act owing ∷ later) old new here next goes not none =
       let e = differs t s (λ same. not.0 d goes.2.0 (goes.2.2 ∙ ap (λ (n : ℕ). Some (n, goes.2.0)) same)) in
       let later_none = or_none (comes s (deeds_in t act)) (comes s (all_deeds later)) (sym (comes-append s (deeds_in t act) (all_deeds later)) ∙ none) in
       let rest = unheld s later goes.0 new goes.1 next goes.3 (puts_other s d t goes.2.1 here.slots goes.1.slots e goes.2.4 not.0, kept_office s here.offices goes.1.offices goes.2.5 not.1) later_none.1 in
@@ -245,7 +248,7 @@ module _ {R J : Type 0} (g : Ghosts R) (jg : JournalGhosts R J) where
   )
 
   -- of a socket that connection c alone has, and that does not come again, bytes pass in the deeds of connection c alone
-  pub held : (s c : ℕ) (works : List Work) (old new : Desk R) (place next : Place J) (channel : Channel) → Goes g jg old place works new next → place.slots c ≡ Some (s, channel) → HeldOnce s c place
+  pub held : (s c : ℕ) (works : List Work) (old new : Desk R) (place next : Place J W) (channel : Channel W) → Goes g jg owes old place works new next → place.slots c ≡ Some (s, channel) → HeldOnce s c place
       → comes s (all_deeds works) ≡ false → IsOwn s c works
   held s c [] old new place next channel goes here once none = (refl, refl)
   held s c (wakes places ∷ later) old new place next channel goes here once none =
@@ -258,21 +261,21 @@ module _ {R J : Type 0} (g : Ghosts R) (jg : JournalGhosts R J) where
       held s c later goes.0 new goes.1 next channel goes.3 there ((λ d it at. once.0 d it (sym (goes.2.4 d) ∙ at)), kept_office s place.offices goes.1.offices goes.2.5 once.1) none
   held s c (opens t d ∷ later) old new place next channel goes here once none =
       let split = or_none (nat_eq t s) (comes s (all_deeds later)) none in
-      let differ : (d ≡ c → ⊥) = λ same. none_some {X = ℕ × Channel} (s, channel) (sym goes.2.1 ∙ (ap place.slots same ∙ here)) in
+      let differ : (d ≡ c → ⊥) = λ same. none_some {X = ℕ × Channel W} (s, channel) (sym goes.2.1 ∙ (ap place.slots same ∙ here)) in
       let there : goes.1.slots c ≡ Some (s, channel) = goes.2.4 c ∙ rw (differs d c differ) here in
       held s c later goes.0 new goes.1 next channel goes.3 there (once_more d t goes.2.0 place.slots goes.1.slots goes.2.4 split.0 once.0, kept_office s place.offices goes.1.offices goes.2.5 once.1) split.1
     where
-      once_more : (d t : ℕ) (it : Channel) (a b : Held) → Puts a b d (Some (t, it)) → nat_eq t s ≡ false → OnceIn s c a → OnceIn s c b
+      once_more : (d t : ℕ) (it : Channel W) (a b : Held W) → Puts a b d (Some (t, it)) → nat_eq t s ≡ false → OnceIn s c a → OnceIn s c b
       once_more d t it a b puts e one f other at = go (nat_eq d f) refl
         where
           go : (same : Bool) → nat_eq d f ≡ same → f ≡ c
           go true h = absurd (apart t s e (same_name t s it other (sym (puts f ∙ rw h refl) ∙ at)))
           go false h = one f other (sym (puts f ∙ rw h refl) ∙ at)
-  held s c (acts t d act ∷ later) old new place next channel goes here once none =
+  held s c (acts t d act owing ∷ later) old new place next channel goes here once none =
       let split = or_none (comes s (deeds_in t act)) (comes s (all_deeds later)) (sym (comes-append s (deeds_in t act) (all_deeds later)) ∙ none) in
       go (λ it there once_there. held s c later goes.0 new goes.1 next it goes.3 there once_there split.1) (nat_eq d c) refl
     where
-      once_same : (a b : Held) → Puts a b d (Some (t, goes.2.1)) → a d ≡ Some (t, goes.2.0) → OnceIn s c a → OnceIn s c b
+      once_same : (a b : Held W) → Puts a b d (Some (t, goes.2.1)) → a d ≡ Some (t, goes.2.0) → OnceIn s c a → OnceIn s c b
       once_same a b puts at_d one f other at = same (nat_eq d f) refl
         where
           same : (is : Bool) → nat_eq d f ≡ is → f ≡ c
@@ -281,7 +284,7 @@ module _ {R J : Type 0} (g : Ghosts R) (jg : JournalGhosts R J) where
               sym (eqb-true d f h) ∙ one d goes.2.0 (at_d ∙ ap (λ (n : ℕ). Some (n, goes.2.0)) name)
           same false h = one f other (sym (puts f ∙ rw h refl) ∙ at)
 
-      go : ((it : Channel) → goes.1.slots c ≡ Some (s, it) → HeldOnce s c goes.1 → IsOwn s c later) → (same : Bool) → nat_eq d c ≡ same → IsOwn s c (acts t d act ∷ later)
+      go : ((it : Channel W) → goes.1.slots c ≡ Some (s, it) → HeldOnce s c goes.1 → IsOwn s c later) → (same : Bool) → nat_eq d c ≡ same → IsOwn s c (acts t d act owing ∷ later)
       go again true e =
           let name = same_name t s goes.2.0 channel (sym goes.2.2 ∙ (ap place.slots (eqb-true d c e) ∙ here)) in
           let there : goes.1.slots c ≡ Some (s, goes.2.1) = goes.2.4 c ∙ rw e (ap (λ (n : ℕ). Some (n, goes.2.1)) name) in
@@ -296,18 +299,18 @@ module _ {R J : Type 0} (g : Ghosts R) (jg : JournalGhosts R J) where
       let split = or_none (comes s deeds) (comes s (all_deeds later)) (sym (comes-append s deeds (all_deeds later)) ∙ none) in
       go split.1 (λ there once_there. held s c later goes.0 new goes.1 next channel goes.3 there once_there split.1) (nat_eq d c) refl
     where
-      gone_once : (a b : Held) → Puts a b d None → OnceIn s c a → OnceIn s c b
+      gone_once : (a b : Held W) → Puts a b d None → OnceIn s c a → OnceIn s c b
       gone_once a b puts one f other at = same (nat_eq d f) refl
         where
           same : (is : Bool) → nat_eq d f ≡ is → f ≡ c
-          same true h = absurd (none_some {X = ℕ × Channel} (s, other) (sym (puts f ∙ rw h refl) ∙ at))
+          same true h = absurd (none_some {X = ℕ × Channel W} (s, other) (sym (puts f ∙ rw h refl) ∙ at))
           same false h = one f other (sym (puts f ∙ rw h refl) ∙ at)
 
-      gone_all : (a b : Held) → Puts a b d None → OnceIn s c a → d ≡ c → NotIn s b
+      gone_all : (a b : Held W) → Puts a b d None → OnceIn s c a → d ≡ c → NotIn s b
       gone_all a b puts one is_c f other at = same (nat_eq d f) refl
         where
           same : (is : Bool) → nat_eq d f ≡ is → ⊥
-          same true h = none_some {X = ℕ × Channel} (s, other) (sym (puts f ∙ rw h refl) ∙ at)
+          same true h = none_some {X = ℕ × Channel W} (s, other) (sym (puts f ∙ rw h refl) ∙ at)
           same false h = apart d f h (is_c ∙ sym (one f other (sym (puts f ∙ rw h refl) ∙ at)))
 
       go : comes s (all_deeds later) ≡ false → (goes.1.slots c ≡ Some (s, channel) → HeldOnce s c goes.1 → IsOwn s c later) → (same : Bool) → nat_eq d c ≡ same → IsOwn s c (ends t d cause deeds said ∷ later)

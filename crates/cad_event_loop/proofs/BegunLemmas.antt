@@ -1,5 +1,5 @@
 -- A line of each connection of the land office has begun.
-use Rattle.std.proofs.Common.{◌≡◌, ℕ, nat_eq, Bool, true, false, List, [], ◌∷◌, Option, None, Some, refl, sym, ap, subst, ◌∙◌, if◌then◌else◌}
+use Rattle.std.proofs.Common.{◌≡◌, ℕ, nat_eq, Bool, true, false, List, [], ◌∷◌, None, Some, refl, sym, ap, subst, ◌∙◌, if◌then◌else◌}
 use Rattle.cad_stream.specs.declared.responder.Responder.{Ghosts}
 use Rattle.cad_stream.specs.declared.journal_responder.JournalResponder.{Ghosts as JournalGhosts}
 use Rattle.cad_desk.specs.declared.desk.Desk.{Desk}
@@ -14,7 +14,7 @@ use Rattle.cad_event_loop.proofs.LifeLemmas.{none_some, one_some}
 pub same_entry : {J : Type 0} (office : AtOffice J) (p o : ℕ) (other entry : Entry J) → office ≡ Some (p, other) → office ≡ Some (o, entry) → other ≡ entry
 same_entry {J} office p o other entry x y = ap (λ (it : ℕ × Entry J). it.1) (one_some {X = ℕ × Entry J} (p, other) (o, entry) (sym x ∙ y))
 
-module _ {R J : Type 0} (g : Ghosts R) (jg : JournalGhosts R J) where
+module _ {R J W : Type 0} (g : Ghosts R) (jg : JournalGhosts R J) (owes : W → List ℕ) where
   abbrev AllBegun : AtOffices J → Type 0
   AllBegun offices = (k o : ℕ) (entry : Entry J) → offices k ≡ Some (o, entry) → IsBegun entry
 
@@ -62,11 +62,11 @@ module _ {R J : Type 0} (g : Ghosts R) (jg : JournalGhosts R J) where
   begun_still Stops next later goes = later
   begun_still Waits next later goes = later
 
-  pub begun_in : (works : List Work) (old new : Desk R) (here next : Place J) → Goes g jg old here works new next → AllBegun here.offices → AllBegun next.offices
-  begun_in [] old new here next goes begun = subst (λ (it : Place J). AllBegun it.offices) (sym goes.1) begun
+  pub begun_in : (works : List Work) (old new : Desk R) (here next : Place J W) → Goes g jg owes old here works new next → AllBegun here.offices → AllBegun next.offices
+  begun_in [] old new here next goes begun = subst (λ (it : Place J W). AllBegun it.offices) (sym goes.1) begun
   begun_in (wakes places ∷ later) old new here next goes begun = begun_in later goes.0 new goes.1 next goes.3 (begun_same here.offices goes.1.offices goes.2.2 begun)
   begun_in (opens s c ∷ later) old new here next goes begun = begun_in later goes.0 new goes.1 next goes.3 (begun_same here.offices goes.1.offices goes.2.5 begun)
-  begun_in (acts s c act ∷ later) old new here next goes begun = begun_in later goes.0 new goes.1 next goes.3 (begun_same here.offices goes.1.offices goes.2.5 begun)
+  begun_in (acts s c act owing ∷ later) old new here next goes begun = begun_in later goes.0 new goes.1 next goes.3 (begun_same here.offices goes.1.offices goes.2.5 begun)
   begun_in (waits s c ∷ later) old new here next goes begun = begun_in later goes.0 new goes.1 next goes.3 (begun_same here.offices goes.1.offices goes.2.5 begun)
   begun_in (ends s c cause deeds said ∷ later) old new here next goes begun = begun_in later goes.0 new goes.1 next goes.3 (begun_same here.offices goes.1.offices goes.2.6 begun)
   begun_in (office_comes o j ∷ later) old new here next goes begun =

@@ -17,7 +17,7 @@ use Rattle.cad_event_loop.specs.Laws.{commands_by, commands_in, AreEntered, AreF
 use Rattle.cad_event_loop.specs.lemmas.CleanLemmas.{goes_clean}
 use Rattle.cad_event_loop.proofs.StandLemmas.{goes_stands}
 
-module _ {R J : Type 0} (g : Ghosts R) (jg : JournalGhosts R J) where
+module _ {R J W : Type 0} (g : Ghosts R) (jg : JournalGhosts R J) (owes : W → List ℕ) where
   -- commands that were entered after these
   abbrev EnteredIn : List Command → List Work → Type 0
   EnteredIn commands works = (entered : List Command) × AreEntered works (length commands) entered × (commands_in commands works ≡ commands ++ entered)
@@ -100,47 +100,47 @@ module _ {R J : Type 0} (g : Ghosts R) (jg : JournalGhosts R J) where
     entered_by Waits line = let r = untold line in (r.0.0, r.0.1, r.1 ∙ r.0.2)
     entered_by Over line = let r = untold line in (r.0.0, r.0.1, r.1 ∙ r.0.2)
 
-  entered_in : (commands : List Command) (works : List Work) (old new : Desk R) (here next : Place J) → (goes : Goes g jg old here works new next) → MayGoOn g jg works old new here next goes
+  entered_in : (commands : List Command) (works : List Work) (old new : Desk R) (here next : Place J W) → (goes : Goes g jg owes old here works new next) → MayGoOn g jg owes works old new here next goes
       → g.counts (responder_of new) → g.stands_for (responder_of old) commands → EnteredIn commands works
   entered_in commands [] old new here next goes may counts stands = ([], refl, sym (append-nil commands))
   entered_in commands (wakes places ∷ later) old new here next goes may counts stands =
-      let after = goes_clean g jg later goes.0 new goes.1 next goes.3 counts in
-      let one = goes_stands g jg commands (wakes places ∷ []) old goes.0 here goes.1 (goes.0, goes.1, goes.2, (refl, refl)) (may.0, tt) after stands in
+      let after = goes_clean g jg owes later goes.0 new goes.1 next goes.3 counts in
+      let one = goes_stands g jg owes commands (wakes places ∷ []) old goes.0 here goes.1 (goes.0, goes.1, goes.2, (refl, refl)) (may.0, tt) after stands in
       entered_in commands later goes.0 new goes.1 next goes.3 may.1 counts one
   entered_in commands (opens s c ∷ later) old new here next goes may counts stands =
-      let after = goes_clean g jg later goes.0 new goes.1 next goes.3 counts in
-      let one = goes_stands g jg commands (opens s c ∷ []) old goes.0 here goes.1 (goes.0, goes.1, goes.2, (refl, refl)) (may.0, tt) after stands in
+      let after = goes_clean g jg owes later goes.0 new goes.1 next goes.3 counts in
+      let one = goes_stands g jg owes commands (opens s c ∷ []) old goes.0 here goes.1 (goes.0, goes.1, goes.2, (refl, refl)) (may.0, tt) after stands in
       entered_in commands later goes.0 new goes.1 next goes.3 may.1 counts one
-  entered_in commands (acts s c act ∷ later) old new here next goes may counts stands =
-      let after = goes_clean g jg later goes.0 new goes.1 next goes.3 counts in
-      let one = goes_stands g jg commands (acts s c act ∷ []) old goes.0 here goes.1 (goes.0, goes.1, goes.2, (refl, refl)) (may.0, tt) after stands in
+  entered_in commands (acts s c act owing ∷ later) old new here next goes may counts stands =
+      let after = goes_clean g jg owes later goes.0 new goes.1 next goes.3 counts in
+      let one = goes_stands g jg owes commands (acts s c act owing ∷ []) old goes.0 here goes.1 (goes.0, goes.1, goes.2, (refl, refl)) (may.0, tt) after stands in
       entered_in commands later goes.0 new goes.1 next goes.3 may.1 counts one
   entered_in commands (waits s c ∷ later) old new here next goes may counts stands =
-      let after = goes_clean g jg later goes.0 new goes.1 next goes.3 counts in
-      let one = goes_stands g jg commands (waits s c ∷ []) old goes.0 here goes.1 (goes.0, goes.1, goes.2, (refl, refl)) (may.0, tt) after stands in
+      let after = goes_clean g jg owes later goes.0 new goes.1 next goes.3 counts in
+      let one = goes_stands g jg owes commands (waits s c ∷ []) old goes.0 here goes.1 (goes.0, goes.1, goes.2, (refl, refl)) (may.0, tt) after stands in
       entered_in commands later goes.0 new goes.1 next goes.3 may.1 counts one
   entered_in commands (ends s c cause deeds said ∷ later) old new here next goes may counts stands =
-      let after = goes_clean g jg later goes.0 new goes.1 next goes.3 counts in
-      let one = goes_stands g jg commands (ends s c cause deeds said ∷ []) old goes.0 here goes.1 (goes.0, goes.1, goes.2, (refl, refl)) (may.0, tt) after stands in
+      let after = goes_clean g jg owes later goes.0 new goes.1 next goes.3 counts in
+      let one = goes_stands g jg owes commands (ends s c cause deeds said ∷ []) old goes.0 here goes.1 (goes.0, goes.1, goes.2, (refl, refl)) (may.0, tt) after stands in
       entered_in commands later goes.0 new goes.1 next goes.3 may.1 counts one
   entered_in commands (office_comes o k ∷ later) old new here next goes may counts stands =
-      let after = goes_clean g jg later goes.0 new goes.1 next goes.3 counts in
-      let one = goes_stands g jg commands (office_comes o k ∷ []) old goes.0 here goes.1 (goes.0, goes.1, goes.2, (refl, refl)) (may.0, tt) after stands in
+      let after = goes_clean g jg owes later goes.0 new goes.1 next goes.3 counts in
+      let one = goes_stands g jg owes commands (office_comes o k ∷ []) old goes.0 here goes.1 (goes.0, goes.1, goes.2, (refl, refl)) (may.0, tt) after stands in
       entered_in commands later goes.0 new goes.1 next goes.3 may.1 counts one
   entered_in commands (office_leaves o k overdue ∷ later) old new here next goes may counts stands =
-      let after = goes_clean g jg later goes.0 new goes.1 next goes.3 counts in
-      let one = goes_stands g jg commands (office_leaves o k overdue ∷ []) old goes.0 here goes.1 (goes.0, goes.1, goes.2, (refl, refl)) (may.0, tt) after stands in
+      let after = goes_clean g jg owes later goes.0 new goes.1 next goes.3 counts in
+      let one = goes_stands g jg owes commands (office_leaves o k overdue ∷ []) old goes.0 here goes.1 (goes.0, goes.1, goes.2, (refl, refl)) (may.0, tt) after stands in
       entered_in commands later goes.0 new goes.1 next goes.3 may.1 counts one
   entered_in commands (aside deeds said ∷ later) old new here next goes may counts stands =
-      let after = goes_clean g jg later goes.0 new goes.1 next goes.3 counts in
-      let one = goes_stands g jg commands (aside deeds said ∷ []) old goes.0 here goes.1 (goes.0, goes.1, goes.2, (refl, refl)) (may.0, tt) after stands in
+      let after = goes_clean g jg owes later goes.0 new goes.1 next goes.3 counts in
+      let one = goes_stands g jg owes commands (aside deeds said ∷ []) old goes.0 here goes.1 (goes.0, goes.1, goes.2, (refl, refl)) (may.0, tt) after stands in
       entered_in commands later goes.0 new goes.1 next goes.3 may.1 counts one
   entered_in commands (enters o k text turned deeds said ∷ later) old new here next goes may counts stands =
-      let after = goes_clean g jg later goes.0 new goes.1 next goes.3 counts in
-      let one = goes_stands g jg commands (enters o k text turned deeds said ∷ []) old goes.0 here goes.1 (goes.0, goes.1, goes.2, (refl, refl)) (may.0, tt) after stands in
+      let after = goes_clean g jg owes later goes.0 new goes.1 next goes.3 counts in
+      let one = goes_stands g jg owes commands (enters o k text turned deeds said ∷ []) old goes.0 here goes.1 (goes.0, goes.1, goes.2, (refl, refl)) (may.0, tt) after stands in
       entered_by commands text said later old goes.0 goes.2.7 after stands (entered_in (commands_by commands said) later goes.0 new goes.1 next goes.3 may.1 counts one) turned goes.2.6
 
-  pub ledger_stands : LedgerStands g jg
+  pub ledger_stands : LedgerStands g jg owes
   ledger_stands commands works old new here next goes may counts stands =
       let in_all = entered_in commands works old new here next goes may counts stands in
-      (in_all.0, in_all.1, in_all.2, subst (λ (cs : List Command). g.stands_for (responder_of new) cs) in_all.2 (goes_stands g jg commands works old new here next goes may counts stands))
+      (in_all.0, in_all.1, in_all.2, subst (λ (cs : List Command). g.stands_for (responder_of new) cs) in_all.2 (goes_stands g jg owes commands works old new here next goes may counts stands))

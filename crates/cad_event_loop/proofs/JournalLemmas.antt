@@ -1,7 +1,5 @@
 -- What the office is told of a journal is the lines of its commands.
-use Rattle.std.specs.Prelude.{⊤}
-use Rattle.std.proofs.Common.{◌≡◌, ◌⊎◌, ℕ, zero, suc, ◌+◌, ◌-◌, ◌<◌, ◌≤◌, ◌==◌, nat_eq, Bool, true, false, List, [], ◌∷◌, ◌++◌, length, take, drop, Option, None, Some, Result, Ok, Err, Vec, refl, sym, ap, subst, ◌∙◌, inl, inr, append-nil, append_assoc, length-take, length-drop, if◌then◌else◌, arith}
-use Rattle.std.specs.Global.{Global}
+use Rattle.std.proofs.Common.{◌≡◌, ◌⊎◌, ℕ, zero, suc, ◌+◌, ◌≤◌, ◌==◌, nat_eq, Bool, true, false, List, [], ◌∷◌, ◌++◌, length, take, drop, None, Some, Result, Ok, Err, refl, sym, ap, subst, ◌∙◌, inl, inr, append-nil, append_assoc, length-take, length-drop, if◌then◌else◌, arith}
 use Rattle.std.proofs.lemmas.Bool.{eqb-true, eq-eqb}
 use Rattle.std.proofs.lemmas.Bool.Decides.{nat_tests}
 use Rattle.cad_versions.specs.declared.command.Command.{Command}
@@ -22,7 +20,7 @@ use Rattle.cad_network.specs.Deeds.{Deed}
 use Rattle.cad_office.specs.declared.journal.JournalLines.{JournalLines}
 use Rattle.cad_office.specs.declared.print.Answer.TheVariants.{Refused}
 use Rattle.cad_office.specs.Answers.{printed}
-use Rattle.cad_office.specs.JournalLines.{line_of, lines_of, end_line, end_behind, commands_left, WritesPiece}
+use Rattle.cad_office.specs.JournalLines.{line_of, lines_of, end_line, commands_left, WritesPiece}
 use Rattle.cad_office_socket.specs.declared.entry.Entry.{Entry}
 use Rattle.cad_office_socket.specs.declared.journal_state.JournalRequest.{JournalRequest}
 use Rattle.cad_office_socket.specs.declared.journal_state.JournalState.{JournalState}
@@ -30,11 +28,11 @@ use Rattle.cad_office_socket.specs.declared.journal_state.JournalState.TheVarian
 use Rattle.cad_office_socket.specs.declared.turned.EntryTurned.{EntryTurned}
 use Rattle.cad_office_socket.specs.declared.turned.EntryTurned.TheVariants.{Wrote, Took, Added, Answered, Lost, Checked, CheckLost, StatusAnswered, StatusLost, JournalBegun, RowsRead, RowsRefused, RowsLost, Piece, PieceLost, Stops, Waits, Over}
 use Rattle.cad_office_socket.specs.Journals.{Begins, IsRead, IsUnread, IsPiece, rest_of}
-use Rattle.cad_office_socket.specs.Turns.{unwritten, HasBegun, IsBegun, IsTaken, IsEntryTurn, EndsLine}
-use Rattle.cad_event_loop.specs.Works.{AtOffice, AtOffices, Place, IsEmpty, Puts, Same, event, question, rows, Said, Work, wakes, opens, acts, waits, ends, office_comes, enters, office_leaves, aside, IsPieceWritten, is_last, Works, Goes, MayGoOn}
+use Rattle.cad_office_socket.specs.Turns.{HasBegun, IsTaken, IsEntryTurn}
+use Rattle.cad_event_loop.specs.Works.{Place, event, question, rows, Said, Work, wakes, opens, acts, waits, ends, office_comes, enters, office_leaves, aside, IsPieceWritten, is_last, Works, Goes, MayGoOn}
 use Rattle.cad_event_loop.specs.Laws.{commands_by, commands_in}
-use Rattle.cad_event_loop.specs.Journals.{journal_text_by, journal_text_in, takes_by, takes_in, IsBeginningOf, journal_text, IsRefusal, IsJournalWritten, JournalsAreWritten}
-use Rattle.cad_event_loop.proofs.LifeLemmas.{none_some, one_some}
+use Rattle.cad_event_loop.specs.Journals.{journal_text_by, journal_text_in, takes_by, takes_in, IsBeginningOf, journal_text, IsJournalWritten, JournalsAreWritten}
+use Rattle.cad_event_loop.proofs.LifeLemmas.{none_some}
 use Rattle.cad_event_loop.proofs.ApartLemmas.{differs}
 use Rattle.cad_event_loop.proofs.SocketLemmas.{split}
 use Rattle.cad_event_loop.proofs.BegunLemmas.{same_entry, begun_in}
@@ -89,7 +87,7 @@ told_all whole later takes none = ([], sym (append-nil (whole ++ later) ∙ (ap 
 told_more : (text whole later : List ℕ) (takes : Bool) → IsBeginningOf whole later takes → IsBeginningOf (text ++ whole) (text ++ later) takes
 told_more text whole later takes is = (is.0, ap (λ (l : List ℕ). text ++ l) is.1 ∙ sym (append_assoc text later is.0), is.2)
 
-module _ {R J : Type 0} (g : Ghosts R) (jg : JournalGhosts R J) (are_accepted : (responder : R) (commands : List Command) → g.stands_for responder commands → AreAccepted [] commands)
+module _ {R J W : Type 0} (g : Ghosts R) (jg : JournalGhosts R J) (owes : W → List ℕ) (are_accepted : (responder : R) (commands : List Command) → g.stands_for responder commands → AreAccepted [] commands)
     (are_within : ReadingsAreWithin jg.has_read jg.behind_of jg.newest_of) (stay : ReadingsStay jg.has_read) where
   -- of the commands between two revisions, with these commands in force
   abbrev SaysBetween : List Command → ℕ → ℕ → List ℕ → Bool → Type 0
@@ -219,7 +217,7 @@ module _ {R J : Type 0} (g : Ghosts R) (jg : JournalGhosts R J) (are_accepted : 
     by_turn o text Stops entry next own t is says = quiet_says entry.journal true t.2
 
   -- a turn of connection k, and what is said after it
-  module _ (k o : ℕ) (text : List ℕ) (turned : EntryTurned) (deeds : List Deed) (said : Said) (later : List Work) (old mid : Desk R) (here between : Place J) (w : Works g jg old here (enters o k text turned deeds said) mid between)
+  module _ (k o : ℕ) (text : List ℕ) (turned : EntryTurned) (deeds : List Deed) (said : Said) (later : List Work) (old mid : Desk R) (here between : Place J W) (w : Works g jg owes old here (enters o k text turned deeds said) mid between)
       (commands : List Command) (counts : g.counts (responder_of mid)) (stands : g.stands_for (responder_of old) commands) (there : g.stands_for (responder_of mid) (commands_by commands said)) where
     -- if the connection is there after it
     after_turn : ((entry : Entry J) → between.offices k ≡ Some (o, entry) → Says (commands_by commands said) entry.journal (journal_text_in k later) (takes_in k later)) → is_last turned ≡ false → Says commands w.1.journal (journal_text_in k later) (takes_in k later)
@@ -234,37 +232,37 @@ module _ {R J : Type 0} (g : Ghosts R) (jg : JournalGhosts R J) (are_accepted : 
         → Says commands w.0.journal (journal_text_by text turned (journal_text_in k later)) (takes_by turned (takes_in k later))
     own_turn next = by_turn commands old mid counts stands (journal_text_in k later) (takes_in k later) o text turned w.0 w.1 w.2 w.4 w.10 (after_turn next)
 
-  says_in : (k o : ℕ) (works : List Work) (old new : Desk R) (here next : Place J) (goes : Goes g jg old here works new next) → MayGoOn g jg works old new here next goes
+  says_in : (k o : ℕ) (works : List Work) (old new : Desk R) (here next : Place J W) (goes : Goes g jg owes old here works new next) → MayGoOn g jg owes works old new here next goes
       → (commands : List Command) (entry : Entry J) → here.offices k ≡ Some (o, entry) → g.counts (responder_of new) → g.stands_for (responder_of old) commands → Says commands entry.journal (journal_text_in k works) (takes_in k works)
   says_in k o [] old new here next goes may commands entry at counts stands = says_nothing commands entry.journal
   says_in k o (wakes places ∷ later) old new here next goes may commands entry at counts stands =
-      let after = goes_clean g jg later goes.0 new goes.1 next goes.3 counts in
-      let one = goes_stands g jg commands (wakes places ∷ []) old goes.0 here goes.1 (goes.0, goes.1, goes.2, (refl, refl)) (may.0, tt) after stands in
+      let after = goes_clean g jg owes later goes.0 new goes.1 next goes.3 counts in
+      let one = goes_stands g jg owes commands (wakes places ∷ []) old goes.0 here goes.1 (goes.0, goes.1, goes.2, (refl, refl)) (may.0, tt) after stands in
       says_in k o later goes.0 new goes.1 next goes.3 may.1 commands entry (goes.2.2 k ∙ at) counts one
   says_in k o (opens s c ∷ later) old new here next goes may commands entry at counts stands =
-      let after = goes_clean g jg later goes.0 new goes.1 next goes.3 counts in
-      let one = goes_stands g jg commands (opens s c ∷ []) old goes.0 here goes.1 (goes.0, goes.1, goes.2, (refl, refl)) (may.0, tt) after stands in
+      let after = goes_clean g jg owes later goes.0 new goes.1 next goes.3 counts in
+      let one = goes_stands g jg owes commands (opens s c ∷ []) old goes.0 here goes.1 (goes.0, goes.1, goes.2, (refl, refl)) (may.0, tt) after stands in
       says_in k o later goes.0 new goes.1 next goes.3 may.1 commands entry (goes.2.5 k ∙ at) counts one
-  says_in k o (acts s c act ∷ later) old new here next goes may commands entry at counts stands =
-      let after = goes_clean g jg later goes.0 new goes.1 next goes.3 counts in
-      let one = goes_stands g jg commands (acts s c act ∷ []) old goes.0 here goes.1 (goes.0, goes.1, goes.2, (refl, refl)) (may.0, tt) after stands in
+  says_in k o (acts s c act owing ∷ later) old new here next goes may commands entry at counts stands =
+      let after = goes_clean g jg owes later goes.0 new goes.1 next goes.3 counts in
+      let one = goes_stands g jg owes commands (acts s c act owing ∷ []) old goes.0 here goes.1 (goes.0, goes.1, goes.2, (refl, refl)) (may.0, tt) after stands in
       says_in k o later goes.0 new goes.1 next goes.3 may.1 commands entry (goes.2.5 k ∙ at) counts one
   says_in k o (waits s c ∷ later) old new here next goes may commands entry at counts stands =
-      let after = goes_clean g jg later goes.0 new goes.1 next goes.3 counts in
-      let one = goes_stands g jg commands (waits s c ∷ []) old goes.0 here goes.1 (goes.0, goes.1, goes.2, (refl, refl)) (may.0, tt) after stands in
+      let after = goes_clean g jg owes later goes.0 new goes.1 next goes.3 counts in
+      let one = goes_stands g jg owes commands (waits s c ∷ []) old goes.0 here goes.1 (goes.0, goes.1, goes.2, (refl, refl)) (may.0, tt) after stands in
       says_in k o later goes.0 new goes.1 next goes.3 may.1 commands entry (goes.2.5 k ∙ at) counts one
   says_in k o (ends s c cause deeds said ∷ later) old new here next goes may commands entry at counts stands =
-      let after = goes_clean g jg later goes.0 new goes.1 next goes.3 counts in
-      let one = goes_stands g jg commands (ends s c cause deeds said ∷ []) old goes.0 here goes.1 (goes.0, goes.1, goes.2, (refl, refl)) (may.0, tt) after stands in
+      let after = goes_clean g jg owes later goes.0 new goes.1 next goes.3 counts in
+      let one = goes_stands g jg owes commands (ends s c cause deeds said ∷ []) old goes.0 here goes.1 (goes.0, goes.1, goes.2, (refl, refl)) (may.0, tt) after stands in
       says_in k o later goes.0 new goes.1 next goes.3 may.1 commands entry (goes.2.6 k ∙ at) counts one
   says_in k o (office_comes p j ∷ later) old new here next goes may commands entry at counts stands =
-      let after = goes_clean g jg later goes.0 new goes.1 next goes.3 counts in
-      let one = goes_stands g jg commands (office_comes p j ∷ []) old goes.0 here goes.1 (goes.0, goes.1, goes.2, (refl, refl)) (may.0, tt) after stands in
+      let after = goes_clean g jg owes later goes.0 new goes.1 next goes.3 counts in
+      let one = goes_stands g jg owes commands (office_comes p j ∷ []) old goes.0 here goes.1 (goes.0, goes.1, goes.2, (refl, refl)) (may.0, tt) after stands in
       let other : nat_eq j k ≡ false = differs j k (λ same. none_some {X = ℕ × Entry J} (o, entry) (sym goes.2.1 ∙ (ap here.offices same ∙ at))) in
       says_in k o later goes.0 new goes.1 next goes.3 may.1 commands entry (goes.2.3 k ∙ rw other at) counts one
   says_in k o (office_leaves p j overdue ∷ later) old new here next goes may commands entry at counts stands =
-      let after = goes_clean g jg later goes.0 new goes.1 next goes.3 counts in
-      let one = goes_stands g jg commands (office_leaves p j overdue ∷ []) old goes.0 here goes.1 (goes.0, goes.1, goes.2, (refl, refl)) (may.0, tt) after stands in
+      let after = goes_clean g jg owes later goes.0 new goes.1 next goes.3 counts in
+      let one = goes_stands g jg owes commands (office_leaves p j overdue ∷ []) old goes.0 here goes.1 (goes.0, goes.1, goes.2, (refl, refl)) (may.0, tt) after stands in
       by_number (λ there. says_in k o later goes.0 new goes.1 next goes.3 may.1 commands entry there counts one) (nat_eq j k) refl
     where
       by_number : (goes.1.offices k ≡ Some (o, entry) → Says commands entry.journal (journal_text_in k later) (takes_in k later)) → (own : Bool) → nat_eq j k ≡ own
@@ -272,12 +270,12 @@ module _ {R J : Type 0} (g : Ghosts R) (jg : JournalGhosts R J) (are_accepted : 
       by_number more true e = rw e (says_nothing commands entry.journal)
       by_number more false e = rw e (more (goes.2.2 k ∙ rw e at))
   says_in k o (aside deeds said ∷ later) old new here next goes may commands entry at counts stands =
-      let after = goes_clean g jg later goes.0 new goes.1 next goes.3 counts in
-      let one = goes_stands g jg commands (aside deeds said ∷ []) old goes.0 here goes.1 (goes.0, goes.1, goes.2, (refl, refl)) (may.0, tt) after stands in
+      let after = goes_clean g jg owes later goes.0 new goes.1 next goes.3 counts in
+      let one = goes_stands g jg owes commands (aside deeds said ∷ []) old goes.0 here goes.1 (goes.0, goes.1, goes.2, (refl, refl)) (may.0, tt) after stands in
       says_in k o later goes.0 new goes.1 next goes.3 may.1 commands entry (goes.2.4 k ∙ at) counts one
   says_in k o (enters p j text turned deeds said ∷ later) old new here next goes may commands entry at counts stands =
-      let after = goes_clean g jg later goes.0 new goes.1 next goes.3 counts in
-      let one = goes_stands g jg commands (enters p j text turned deeds said ∷ []) old goes.0 here goes.1 (goes.0, goes.1, goes.2, (refl, refl)) (may.0, tt) after stands in
+      let after = goes_clean g jg owes later goes.0 new goes.1 next goes.3 counts in
+      let one = goes_stands g jg owes commands (enters p j text turned deeds said ∷ []) old goes.0 here goes.1 (goes.0, goes.1, goes.2, (refl, refl)) (may.0, tt) after stands in
       by_number after one (λ q it there. says_in k q later goes.0 new goes.1 next goes.3 may.1 (commands_by commands said) it there counts one) (nat_eq j k) refl
     where
       by_number : g.counts (responder_of goes.0) → g.stands_for (responder_of goes.0) (commands_by commands said)
@@ -285,7 +283,7 @@ module _ {R J : Type 0} (g : Ghosts R) (jg : JournalGhosts R J) (are_accepted : 
           → Says commands entry.journal (journal_text_in k (enters p j text turned deeds said ∷ later)) (takes_in k (enters p j text turned deeds said ∷ later))
       by_number after one more true e =
           let number = eqb-true j k e in
-          let w : Works g jg old here (enters p k text turned deeds said) goes.0 goes.1 = subst (λ (i : ℕ). Works g jg old here (enters p i text turned deeds said) goes.0 goes.1) number goes.2 in
+          let w : Works g jg owes old here (enters p k text turned deeds said) goes.0 goes.1 = subst (λ (i : ℕ). Works g jg owes old here (enters p i text turned deeds said) goes.0 goes.1) number goes.2 in
           let turn = own_turn k p text turned deeds said later old goes.0 here goes.1 w commands after stands one (more p) in
           rw e (subst (λ (it : Entry J). Says commands it.journal (journal_text_by text turned (journal_text_in k later)) (takes_by turned (takes_in k later))) (same_entry (here.offices k) p o w.0 entry w.3 at) turn)
       by_number after one more false e =
@@ -333,18 +331,18 @@ module _ {R J : Type 0} (g : Ghosts R) (jg : JournalGhosts R J) (are_accepted : 
 
   -- ---- what is told of each journal
 
-  pub journals_are_written : JournalsAreWritten g jg
+  pub journals_are_written : JournalsAreWritten g jg owes
   journals_are_written o k behind text deeds said commands before later old new first next empty goes may counts stands =
-      let s = split g jg before (enters o k text (JournalBegun behind) deeds said ∷ later) old new first next goes may in
+      let s = split g jg owes before (enters o k text (JournalBegun behind) deeds said ∷ later) old new first next goes may in
       let rest = s.4 in
       let w = rest.2 in
-      let clean = goes_clean g jg (enters o k text (JournalBegun behind) deeds said ∷ later) s.0 new s.1 next rest counts in
+      let clean = goes_clean g jg owes (enters o k text (JournalBegun behind) deeds said ∷ later) s.0 new s.1 next rest counts in
       let in_force = commands_in commands before in
-      let now = goes_stands g jg commands before old s.0 first s.1 s.2 s.3 clean stands in
-      let begun = begun_in g jg before old s.0 first s.1 s.2 (λ j p entry at. absurd (none_some {X = ℕ × Entry J} (p, entry) (sym (empty.1 j) ∙ at))) k o w.0 w.3 in
+      let now = goes_stands g jg owes commands before old s.0 first s.1 s.2 s.3 clean stands in
+      let begun = begun_in g jg owes before old s.0 first s.1 s.2 (λ j p entry at. absurd (none_some {X = ℕ × Entry J} (p, entry) (sym (empty.1 j) ∙ at))) k o w.0 w.3 in
       let begins = asked_by o behind s.0 rest.0 w.0 w.1 w.2 begun.0 begun.1 w.4 in
-      let after = goes_clean g jg later rest.0 new rest.1 next rest.3 counts in
-      let one = goes_stands g jg in_force (enters o k text (JournalBegun behind) deeds said ∷ []) s.0 rest.0 s.1 rest.1 (rest.0, rest.1, w, (refl, refl)) (s.5.0, tt) after now in
+      let after = goes_clean g jg owes later rest.0 new rest.1 next rest.3 counts in
+      let one = goes_stands g jg owes in_force (enters o k text (JournalBegun behind) deeds said ∷ []) s.0 rest.0 s.1 rest.1 (rest.0, rest.1, w, (refl, refl)) (s.5.0, tt) after now in
       let nothing : commands_by in_force said ≡ in_force = rw w.6.1 refl in
       let there : rest.1.offices k ≡ Some (o, w.1) = w.8 k ∙ rw (eq-eqb k k refl) refl in
       let says = says_in k o later rest.0 new rest.1 next rest.3 s.5.1 in_force w.1 there counts (subst (λ (cs : List Command). g.stands_for (responder_of rest.0) cs) nothing one) in

@@ -1,4 +1,5 @@
 pub mod StandingLemmas
+pub mod LineLemmas
 pub mod GoesLemmas
 pub mod SeatLemmas
 pub mod StandLemmas

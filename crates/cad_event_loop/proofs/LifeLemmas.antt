@@ -16,7 +16,7 @@ use Rattle.cad_event_loop.proofs.StandLemmas.{only_checked, only_read}
 use Rattle.cad_network.specs.lemmas.DeedLemmas.{given_by-append, taken_by-append, given_by-one, taken_by-one}
 use Rattle.cad_clients.specs.declared.channel.Channel.{Channel}
 use Rattle.cad_clients.specs.declared.turned.Ending.{Ending}
-use Rattle.cad_clients.specs.Channels.{Act, wrote, took, fed, read_in, written_in, Does}
+use Rattle.cad_clients.specs.Channels.{Act, wrote, took, fed, worked, read_in, written_in, Does}
 use Rattle.cad_clients.specs.Acts.{Happening, own, IsOther, read_of, written_of}
 use Rattle.cad_versions.specs.declared.command.Command.{Command}
 use Rattle.cad_versions.specs.declared.fault.RegisterFault.{RegisterFault}
@@ -52,11 +52,13 @@ act_given : (s : ℕ) (act : Act) → given_by s (deeds_in s act) ≡ read_in ac
 act_given s (wrote bytes) = refl
 act_given s (took bytes) = given_by-one s bytes
 act_given s (fed piece out over) = refl
+act_given s worked = refl
 
 act_taken : (s : ℕ) (act : Act) → taken_by s (deeds_in s act) ≡ written_in act
 act_taken s (wrote bytes) = taken_by-one s bytes
 act_taken s (took bytes) = refl
 act_taken s (fed piece out over) = refl
+act_taken s worked = refl
 
 -- an event of another is no event of this one
 of_another : (c d : ℕ) (event : Event) → IsEventOf d event → d ≢ c → IsOther c event
@@ -65,9 +67,9 @@ of_another c d (Bytes e piece) of differ = λ same. differ (sym of ∙ same)
 of_another c d (Close e) of differ = λ same. differ (sym of ∙ same)
 of_another c d (Office command) of differ = absurd of
 
-module _ {R J : Type 0} (g : Ghosts R) (jg : JournalGhosts R J) (c s : ℕ) where
-  after_own : (old mid : Desk R) (channel next : Channel) (act : Act) (happenings : List Happening) (deeds : List Deed) (ended : Option (Option Ending × List Deed)) (new : Desk R) (slots : Held)
-      → Does g c old channel act mid next → IsLifeBy g jg c s mid next happenings deeds ended new slots → IsLifeBy g jg c s old channel (own act ∷ happenings) (deeds_in s act ++ deeds) ended new slots
+module _ {R J W : Type 0} (g : Ghosts R) (jg : JournalGhosts R J) (owes : W → List ℕ) (c s : ℕ) where
+  after_own : (old mid : Desk R) (channel next : Channel W) (act : Act) (happenings : List Happening) (deeds : List Deed) (ended : Option (Option Ending × List Deed)) (new : Desk R) (slots : Held W)
+      → Does g owes c old channel act mid next → IsLifeBy g jg owes c s mid next happenings deeds ended new slots → IsLifeBy g jg owes c s old channel (own act ∷ happenings) (deeds_in s act ++ deeds) ended new slots
   after_own old mid channel next act happenings deeds ended new slots does l = (
     l.0,
     l.1,
@@ -80,16 +82,17 @@ module _ {R J : Type 0} (g : Ghosts R) (jg : JournalGhosts R J) (c s : ℕ) wher
     l.6,
   )
 
-  after_nothing : (old mid : Desk R) (channel : Channel) (happenings : List Happening) (deeds : List Deed) (ended : Option (Option Ending × List Deed)) (new : Desk R) (slots : Held)
-      → mid ≡ old → IsLifeBy g jg c s mid channel happenings deeds ended new slots → IsLifeBy g jg c s old channel happenings deeds ended new slots
-  after_nothing old mid channel happenings deeds ended new slots e l = subst (λ (d : Desk R). IsLifeBy g jg c s d channel happenings deeds ended new slots) e l
+  after_nothing : (old mid : Desk R) (channel : Channel W) (happenings : List Happening) (deeds : List Deed) (ended : Option (Option Ending × List Deed)) (new : Desk R) (slots : Held W)
+      → mid ≡ old → IsLifeBy g jg owes c s mid channel happenings deeds ended new slots → IsLifeBy g jg owes c s old channel happenings deeds ended new slots
+  after_nothing old mid channel happenings deeds ended new slots e l = subst (λ (d : Desk R). IsLifeBy g jg owes c s d channel happenings deeds ended new slots) e l
 
-  after_another : (d : ℕ) (old mid : Desk R) (there after channel : Channel) (act : Act) (happenings : List Happening) (deeds : List Deed) (ended : Option (Option Ending × List Deed)) (new : Desk R) (slots : Held)
-      → d ≢ c → Does g d old there act mid after → IsLifeBy g jg c s mid channel happenings deeds ended new slots → IsLifeBy g jg c s old channel (by_another d act happenings) deeds ended new slots
+  after_another : (d : ℕ) (old mid : Desk R) (there after channel : Channel W) (act : Act) (happenings : List Happening) (deeds : List Deed) (ended : Option (Option Ending × List Deed)) (new : Desk R) (slots : Held W)
+      → d ≢ c → Does g owes d old there act mid after → IsLifeBy g jg owes c s mid channel happenings deeds ended new slots → IsLifeBy g jg owes c s old channel (by_another d act happenings) deeds ended new slots
   after_another d old mid there after channel (wrote bytes) happenings deeds ended new slots differ does l = after_nothing old mid channel happenings deeds ended new slots does.3 l
   after_another d old mid there after channel (took bytes) happenings deeds ended new slots differ does l = after_nothing old mid channel happenings deeds ended new slots does.4 l
   after_another d old mid there after channel (fed piece out over) happenings deeds ended new slots differ does l =
       (l.0, l.1, (mid, differ, does.5, tt, l.2), l.3, l.4, l.5, l.6)
+  after_another d old mid there after channel worked happenings deeds ended new slots differ does l = after_nothing old mid channel happenings deeds ended new slots does.3 l
 
   -- what the desk gets is of no event of this connection
   abbrev IsApart : Said → Type 0
@@ -98,16 +101,16 @@ module _ {R J : Type 0} (g : Ghosts R) (jg : JournalGhosts R J) (c s : ℕ) wher
   IsApart (Some (question command answer)) = ⊤
   IsApart (Some (rows answer)) = ⊤
 
-  after_told : (old mid : Desk R) (channel : Channel) (said : Said) (happenings : List Happening) (deeds : List Deed) (ended : Option (Option Ending × List Deed)) (new : Desk R) (slots : Held)
+  after_told : (old mid : Desk R) (channel : Channel W) (said : Said) (happenings : List Happening) (deeds : List Deed) (ended : Option (Option Ending × List Deed)) (new : Desk R) (slots : Held W)
       → IsApart said → Tells g jg old said mid → MayAsk g jg old said mid
-      → IsLifeBy g jg c s mid channel happenings deeds ended new slots → IsLifeBy g jg c s old channel (by_desk said happenings) deeds ended new slots
+      → IsLifeBy g jg owes c s mid channel happenings deeds ended new slots → IsLifeBy g jg owes c s old channel (by_desk said happenings) deeds ended new slots
   after_told old mid channel None happenings deeds ended new slots differ tells may l = after_nothing old mid channel happenings deeds ended new slots tells l
   after_told old mid channel (Some (event e answer)) happenings deeds ended new slots differ tells may l =
       (l.0, l.1, (mid, differ, tells, may, l.2), l.3, l.4, l.5, l.6)
   after_told old mid channel (Some (question command answer)) happenings deeds ended new slots differ tells may l =
-      (l.0, l.1, (mid, only_checked g jg old mid command answer tells may, l.2), l.3, l.4, l.5, l.6)
+      (l.0, l.1, (mid, only_checked g jg owes old mid command answer tells may, l.2), l.3, l.4, l.5, l.6)
   after_told old mid channel (Some (rows answer)) happenings deeds ended new slots differ tells may l =
-      (l.0, l.1, (mid, only_read g jg old mid answer tells may, l.2), l.3, l.4, l.5, l.6)
+      (l.0, l.1, (mid, only_read g jg owes old mid answer tells may, l.2), l.3, l.4, l.5, l.6)
 
   ends_apart : (d : ℕ) (said : Said) → d ≢ c → IsOf d said → IsApart said
   ends_apart d None differ of = tt
@@ -115,10 +118,10 @@ module _ {R J : Type 0} (g : Ghosts R) (jg : JournalGhosts R J) (c s : ℕ) wher
   ends_apart d (Some (question command answer)) differ of = tt
   ends_apart d (Some (rows answer)) differ of = tt
 
-  aside_apart : (slots : Held) (channel : Channel) (said : Said) → slots c ≡ Some (s, channel) → IsOfNone slots said → IsApart said
+  aside_apart : (slots : Held W) (channel : Channel W) (said : Said) → slots c ≡ Some (s, channel) → IsOfNone slots said → IsApart said
   aside_apart slots channel None here of = tt
   aside_apart slots channel (Some (event e answer)) here of =
-      let another : IsOther c (Open of.0) = λ same. none_some {X = ℕ × Channel} (s, channel) (sym of.1 ∙ (ap slots same ∙ here)) in
+      let another : IsOther c (Open of.0) = λ same. none_some {X = ℕ × Channel W} (s, channel) (sym of.1 ∙ (ap slots same ∙ here)) in
       subst (λ (it : Event). IsOther c it) (sym of.2) another
   aside_apart slots channel (Some (question command answer)) here of = tt
   aside_apart slots channel (Some (rows answer)) here of = tt
@@ -174,13 +177,13 @@ module _ {R J : Type 0} (g : Ghosts R) (jg : JournalGhosts R J) (c s : ℕ) wher
   office_apart text Over said line = untold_apart said line
 
   -- connection c, held by two names of one slot
-  held_once : (slots : Held) (d t : ℕ) (there channel : Channel) → d ≡ c → slots d ≡ Some (t, there) → slots c ≡ Some (s, channel) → ◌≡◌ {A = ℕ × Channel} (t, there) (s, channel)
+  held_once : (slots : Held W) (d t : ℕ) (there channel : Channel W) → d ≡ c → slots d ≡ Some (t, there) → slots c ≡ Some (s, channel) → ◌≡◌ {A = ℕ × Channel W} (t, there) (s, channel)
   held_once slots d t there channel same at here =
-      one_some {X = ℕ × Channel} (t, there) (s, channel) (sym at ∙ (ap slots same ∙ here))
+      one_some {X = ℕ × Channel W} (t, there) (s, channel) (sym at ∙ (ap slots same ∙ here))
 
-  life : (works : List Work) (old new : Desk R) (here_at next : Place J) (channel : Channel) → (goes : Goes g jg old here_at works new next) → MayGoOn g jg works old new here_at next goes
-      → here_at.slots c ≡ Some (s, channel) → IsLife g jg c s old channel works new next
-  life [] old new here_at next channel goes may here = (old, channel, (refl, refl), ap (λ (h : Place J). h.slots c) goes.1 ∙ here, refl, refl, λ counts. subst (λ (d : Desk R). g.counts (responder_of d)) goes.0 counts)
+  life : (works : List Work) (old new : Desk R) (here_at next : Place J W) (channel : Channel W) → (goes : Goes g jg owes old here_at works new next) → MayGoOn g jg owes works old new here_at next goes
+      → here_at.slots c ≡ Some (s, channel) → IsLife g jg owes c s old channel works new next
+  life [] old new here_at next channel goes may here = (old, channel, (refl, refl), ap (λ (h : Place J W). h.slots c) goes.1 ∙ here, refl, refl, λ counts. subst (λ (d : Desk R). g.counts (responder_of d)) goes.0 counts)
   life (wakes places ∷ later) old new here_at next channel goes may here =
       let work = goes.2 in
       let there : goes.1.slots c ≡ Some (s, channel) = work.1 c ∙ here in
@@ -188,26 +191,26 @@ module _ {R J : Type 0} (g : Ghosts R) (jg : JournalGhosts R J) (c s : ℕ) wher
       after_nothing old goes.0 channel (life_of c later) (own_deeds c later) (end_of c later) new next.slots work.0 l
   life (opens t d ∷ later) old new here_at next channel goes may here =
       let work = goes.2 in
-      let differ : d ≢ c = λ same. none_some {X = ℕ × Channel} (s, channel) (sym work.1 ∙ (ap here_at.slots same ∙ here)) in
+      let differ : d ≢ c = λ same. none_some {X = ℕ × Channel W} (s, channel) (sym work.1 ∙ (ap here_at.slots same ∙ here)) in
       let there : goes.1.slots c ≡ Some (s, channel) = work.4 c ∙ rw (other_number d c differ) here in
       let l = life later goes.0 new goes.1 next channel goes.3 may.1 there in
       (l.0, l.1, (goes.0, differ, work.3, tt, l.2), l.3, l.4, l.5, l.6)
-  life (acts t d act ∷ later) old new here_at next channel goes may here =
+  life (acts t d act owing ∷ later) old new here_at next channel goes may here =
       go (λ it there. life later goes.0 new goes.1 next it goes.3 may.1 there) (nat_eq d c) refl
     where
-      work : Works g jg old here_at (acts t d act) goes.0 goes.1
+      work : Works g jg owes old here_at (acts t d act owing) goes.0 goes.1
       work = goes.2
 
-      go : ((it : Channel) → goes.1.slots c ≡ Some (s, it) → IsLife g jg c s goes.0 it later new next) → (same : Bool) → nat_eq d c ≡ same → IsLife g jg c s old channel (acts t d act ∷ later) new next
+      go : ((it : Channel W) → goes.1.slots c ≡ Some (s, it) → IsLife g jg owes c s goes.0 it later new next) → (same : Bool) → nat_eq d c ≡ same → IsLife g jg owes c s old channel (acts t d act owing ∷ later) new next
       go again true e =
           let same = eqb-true d c e in
           let pair = held_once here_at.slots d t work.0 channel same work.2 here in
-          let name : t ≡ s = ap (λ (p : ℕ × Channel). p.0) pair in
-          let at : work.0 ≡ channel = ap (λ (p : ℕ × Channel). p.1) pair in
-          let does = subst (λ (k : ℕ). Does g k old channel act goes.0 work.1) same (subst (λ (it : Channel). Does g d old it act goes.0 work.1) at work.3) in
+          let name : t ≡ s = ap (λ (p : ℕ × Channel W). p.0) pair in
+          let at : work.0 ≡ channel = ap (λ (p : ℕ × Channel W). p.1) pair in
+          let does = subst (λ (k : ℕ). Does g owes k old channel act goes.0 work.1) same (subst (λ (it : Channel W). Does g owes d old it act goes.0 work.1) at work.3) in
           let there : goes.1.slots c ≡ Some (s, work.1) = work.4 c ∙ rw e (ap (λ (n : ℕ). Some (n, work.1)) name) in
           let l = again work.1 there in
-          rw e (subst (λ (n : ℕ). IsLifeBy g jg c s old channel (own act ∷ life_of c later) (deeds_in n act ++ own_deeds c later) (end_of c later) new next.slots) (sym name)
+          rw e (subst (λ (n : ℕ). IsLifeBy g jg owes c s old channel (own act ∷ life_of c later) (deeds_in n act ++ own_deeds c later) (end_of c later) new next.slots) (sym name)
           (after_own old goes.0 channel work.1 act (life_of c later) (own_deeds c later) (end_of c later) new next.slots does l))
       go again false e =
           let there : goes.1.slots c ≡ Some (s, channel) = work.4 c ∙ rw e here in
@@ -221,18 +224,18 @@ module _ {R J : Type 0} (g : Ghosts R) (jg : JournalGhosts R J) (c s : ℕ) wher
   life (ends t d cause deeds said ∷ later) old new here_at next channel goes may here =
       go (λ it there. life later goes.0 new goes.1 next it goes.3 may.1 there) (nat_eq d c) refl
     where
-      work : Works g jg old here_at (ends t d cause deeds said) goes.0 goes.1
+      work : Works g jg owes old here_at (ends t d cause deeds said) goes.0 goes.1
       work = goes.2
 
-      go : ((it : Channel) → goes.1.slots c ≡ Some (s, it) → IsLife g jg c s goes.0 it later new next) → (same : Bool) → nat_eq d c ≡ same → IsLife g jg c s old channel (ends t d cause deeds said ∷ later) new next
+      go : ((it : Channel W) → goes.1.slots c ≡ Some (s, it) → IsLife g jg owes c s goes.0 it later new next) → (same : Bool) → nat_eq d c ≡ same → IsLife g jg owes c s old channel (ends t d cause deeds said ∷ later) new next
       go again true e =
           let same = eqb-true d c e in
           let pair = held_once here_at.slots d t work.0 channel same work.1 here in
-          let name : t ≡ s = ap (λ (p : ℕ × Channel). p.0) pair in
-          let at : work.0 ≡ channel = ap (λ (p : ℕ × Channel). p.1) pair in
-          let leaves = subst (λ (k : ℕ). Leaves g jg k s old channel cause deeds goes.0) same (subst (λ (k : ℕ). Leaves g jg d k old channel cause deeds goes.0) name
-          (subst (λ (it : Channel). Leaves g jg d t old it cause deeds goes.0) at work.2)) in
-          rw e (old, channel, (refl, refl), (goes.0, leaves), refl, refl, goes_clean g jg (ends t d cause deeds said ∷ later) old new here_at next goes)
+          let name : t ≡ s = ap (λ (p : ℕ × Channel W). p.0) pair in
+          let at : work.0 ≡ channel = ap (λ (p : ℕ × Channel W). p.1) pair in
+          let leaves = subst (λ (k : ℕ). Leaves g k s old channel cause deeds goes.0) same (subst (λ (k : ℕ). Leaves g d k old channel cause deeds goes.0) name
+          (subst (λ (it : Channel W). Leaves g d t old it cause deeds goes.0) at work.2)) in
+          rw e (old, channel, (refl, refl), (goes.0, leaves), refl, refl, goes_clean g jg owes (ends t d cause deeds said ∷ later) old new here_at next goes)
       go again false e =
           let there : goes.1.slots c ≡ Some (s, channel) = work.5 c ∙ rw e here in
           let l = again channel there in
@@ -258,5 +261,5 @@ module _ {R J : Type 0} (g : Ghosts R) (jg : JournalGhosts R J) (c s : ℕ) wher
       let l = life later goes.0 new goes.1 next channel goes.3 may.1 there in
       after_told old goes.0 channel said (life_of c later) (own_deeds c later) (end_of c later) new next.slots (aside_apart here_at.slots channel said here work.0) work.1 may.0 l
 
-pub each_has_its_life : {R J : Type 0} (g : Ghosts R) (jg : JournalGhosts R J) → EachHasItsLife g jg
-each_has_its_life g jg c s works old new here next channel goes may at = life g jg c s works old new here next channel goes may at
+pub each_has_its_life : {R J W : Type 0} (g : Ghosts R) (jg : JournalGhosts R J) (owes : W → List ℕ) → EachHasItsLife g jg owes
+each_has_its_life g jg owes c s works old new here next channel goes may at = life g jg owes c s works old new here next channel goes may at

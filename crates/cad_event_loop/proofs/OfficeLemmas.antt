@@ -41,9 +41,10 @@ use Rattle.cad_event_loop.specs.Hosting.{Each, IsServing, IsClosing, Hosts, Serv
 use Rattle.cad_event_loop.specs.inner.Offices.{office_at, offices_at, seat_in, seat_at, Seats, HasBegun as OfficeHasBegun, HaveBegun, HaveBegunUnless, IsOfficeSending, end_of_office, is_over, may_go_on, left_deeds, left_at, HasOfficeTurns, HasSent}
 use Rattle.cad_event_loop.specs.Works.{event, question, rows, Said, AtOffice, AtOffices, Place, Puts, Same, place_of, Held, Work, enters, office_comes, office_leaves, aside, all_deeds, store_end, end_of_turned, end_in, EndsBy, is_last, SaysSo, ChecksSo, IsLineSaid, IsPieceWritten, Tells, Works, Goes}
 use Rattle.cad_event_loop.proofs.LifeLemmas.{none_some, one_some}
-use Rattle.cad_event_loop.specs.inner.Standing.{standing_at, standing_office, standings_of, IsPaced, IsAtDoors, ServesOffice}
-use Rattle.cad_event_loop.specs.Turns.{Standing, absent, waiting, ready, Standings, stands_in, office_in, office_turned, is_turn_of, is_office_turn, any_of, has_turn}
-use Rattle.cad_event_loop.proofs.StandingLemmas.{stands_in-append, office_in-append, any_right, any_none, one_of, office_passes}
+use Rattle.cad_event_loop.specs.inner.Line.{standing_at}
+use Rattle.cad_event_loop.specs.inner.Standing.{standing_office, standings_of, IsPaced, IsAtDoors, ServesOffice}
+use Rattle.cad_event_loop.specs.Turns.{Standing, absent, waiting, ready, Standings, stands_in, office_in, line_in, office_turned, is_turn_of, is_office_turn, any_of, has_turn}
+use Rattle.cad_event_loop.proofs.StandingLemmas.{stands_in-append, office_in-append, line_in-append, any_right, any_none, one_of, office_passes}
 use Rattle.cad_event_loop.proofs.GoesLemmas.{all_deeds-append, or_nothing, goes-append, end_in-append, ends-then, ends-one, each-append, hosts-one, serves-one, put_same}
 
 -- a line of it has begun, if hosting continues
@@ -257,7 +258,7 @@ begun_then Stops next l = tt
 begun_then Waits next l = l
 begun_then Over next l = tt
 
-module _ {R J : Type 0} (g : Ghosts R) (jg : JournalGhosts R J) where
+module _ {R J W : Type 0} (g : Ghosts R) (jg : JournalGhosts R J) (owes : W → List ℕ) where
   -- what the desk is told by the line that ended, if one did
   abbrev IsSaid : Desk R → EntryTurned → Desk R → Entry J → Type 0
   IsSaid old turned new next = (text : List ℕ) × (said : Said) × IsLineSaid text turned said × Tells g jg old said new × IsPieceWritten text turned next
@@ -337,14 +338,14 @@ module _ {R J : Type 0} (g : Ghosts R) (jg : JournalGhosts R J) where
   turn_said o Waits old new entry next deeds begun t = ([], None, refl, t.2, tt)
   turn_said o Over old new entry next deeds begun t = ([], None, refl, t.1, tt)
 
-  module _ (slots : Held) (o k : ℕ) where
-    abbrev at_offices : AtOffices J → Place J
+  module _ (slots : Held W) (o k : ℕ) where
+    abbrev at_offices : AtOffices J → Place J W
     at_offices offices = record { slots = slots; offices = offices }
 
     -- a turn is one thing
     abbrev IsOneWork : Desk R → AtOffices J → EntryTurned → Desk R → AtOffices J → List Deed → Type 0
     IsOneWork old here turned new there own =
-        (text : List ℕ) × (said : Said) × Works g jg old (at_offices here) (enters o k text turned (own ++ left_deeds (is_last turned) o) said) new (at_offices there)
+        (text : List ℕ) × (said : Said) × Works g jg owes old (at_offices here) (enters o k text turned (own ++ left_deeds (is_last turned) o) said) new (at_offices there)
 
     turn_works : (turned : EntryTurned) (old new : Desk R) (here there : AtOffices J) (entry next : Entry J) (own : List Deed) → here k ≡ Some (o, entry) → Puts here there k (left_at (is_last turned) o next) → IsBegun entry
         → IsEntryTurn g jg o old entry turned new next own → IsOneWork old here turned new there own
@@ -356,6 +357,7 @@ module _ {R J : Type 0} (g : Ghosts R) (jg : JournalGhosts R J) where
     record AreTurns (turns : List EntryTurned) (works : List Work) : Type 0 where
       count : length works ≡ length turns
       stays : (c : ℕ) (old : Standing) → stands_in c old works ≡ old
+      lines : (line : List ℕ) → line_in line works ≡ line
       last : (turned : EntryTurned) (before : List EntryTurned) → turns ≡ turned ∷ before → (old : Standing) → office_in k old works ≡ office_turned (is_last turned) turned
       others : (j : ℕ) → nat_eq k j ≡ false → (old : Standing) → office_in j old works ≡ old
       turn : (turned : EntryTurned) (before : List EntryTurned) → turns ≡ turned ∷ before → any_of (is_office_turn k) works ≡ true
@@ -371,6 +373,7 @@ module _ {R J : Type 0} (g : Ghosts R) (jg : JournalGhosts R J) where
         record {
           count = omega (arith, all, count);
           stays = λ c old. stands_in-append c old works (enters o k text turned deeds said ∷ []) ∙ are.stays c old;
+          lines = λ line. line_in-append line works (enters o k text turned deeds said ∷ []) ∙ are.lines line;
           last = λ it rest e old. office_in-append k old works (enters o k text turned deeds said ∷ []) ∙ (rw (eq-eqb k k refl) (ap (λ (one : EntryTurned). office_turned (is_last one) one) (last_turn turned it turns rest e)));
           others = λ j other old. office_in-append j old works (enters o k text turned deeds said ∷ []) ∙ rw other (are.others j other old);
           quiet = λ c. any_none (is_turn_of c) works (enters o k text turned deeds said ∷ []) (are.quiet c) refl;
@@ -382,6 +385,7 @@ module _ {R J : Type 0} (g : Ghosts R) (jg : JournalGhosts R J) where
       count = refl;
       quiet = λ c. refl;
       stays = λ c old. refl;
+      lines = λ line. refl;
       others = λ j other old. refl;
       last = λ turned before e old. (let clash : ◌≡◌ {A = List EntryTurned} [] (turned ∷ before) = e in cc);
       turn = λ turned before e. (let clash : ◌≡◌ {A = List EntryTurned} [] (turned ∷ before) = e in cc);
@@ -415,7 +419,7 @@ module _ {R J : Type 0} (g : Ghosts R) (jg : JournalGhosts R J) where
 
     -- turns that go on
     turns_go : (turns : List EntryTurned) (old new : Desk R) (here : AtOffices J) (entry next : Entry J) (deeds : List Deed) → here k ≡ Some (o, entry) → IsBegun entry → all_go_on turns ≡ true → HasTurns g jg o old entry turns new next deeds
-        → (there : AtOffices J) × Puts here there k (Some (o, next)) × (works : List Work) × (deeds ≡ all_deeds works) × (end_in works ≡ None) × Goes g jg old (at_offices here) works new (at_offices there) × Each IsServing works × IsBegun next × AreTurns turns works
+        → (there : AtOffices J) × Puts here there k (Some (o, next)) × (works : List Work) × (deeds ≡ all_deeds works) × (end_in works ≡ None) × Goes g jg owes old (at_offices here) works new (at_offices there) × Each IsServing works × IsBegun next × AreTurns turns works
     turns_go [] old new here entry next deeds at begun go t =
         (here, put_first here (Some (o, next)) (at ∙ ap (λ (it : Entry J). Some (o, it)) (sym t.2)), [], t.0, refl, (t.1, refl), tt, subst IsBegun (sym t.2) begun, turns_none)
     turns_go (turned ∷ before) old new here entry next deeds at begun go t =
@@ -435,7 +439,7 @@ module _ {R J : Type 0} (g : Ghosts R) (jg : JournalGhosts R J) where
           first.2 ++ work ∷ [],
           t.6 ∙ (ap (λ (l : List Deed). l ++ t.3) first.3 ∙ (ap (λ (l : List Deed). all_deeds first.2 ++ l) (sym same ∙ sym (append-nil (t.3 ++ left_deeds (is_last turned) o))) ∙ sym (all_deeds-append first.2 (work ∷ [])))),
           end_in-append first.2 (work ∷ []) ∙ rw (or_nothing (end_of_turned turned), first.4, none) refl,
-          goes-append g jg first.2 (work ∷ []) old t.0 new (at_offices here) (at_offices mid) (at_offices there) first.5 (new, at_offices there, one.2, (refl, refl)),
+          goes-append g jg owes first.2 (work ∷ []) old t.0 new (at_offices here) (at_offices mid) (at_offices there) first.5 (new, at_offices there, one.2, (refl, refl)),
           each-append IsServing first.2 (work ∷ []) first.6 (tt, tt),
           subst (λ (end : Option EntryServed). BegunIf end next) both.0 later,
           turns_more turned before first.2 one.0 (t.3 ++ left_deeds (is_last turned) o) one.1 first.8,
@@ -445,7 +449,7 @@ module _ {R J : Type 0} (g : Ghosts R) (jg : JournalGhosts R J) where
     turns_end : (end : EntryServed) (turned : EntryTurned) (before : List EntryTurned) (old new : Desk R) (here there : AtOffices J) (entry next : Entry J) (deeds : List Deed) → here k ≡ Some (o, entry) → Puts here there k (left_at (is_over end) o next)
         → IsBegun entry → all_go_on before ≡ true
         → HasTurns g jg o old entry (turned ∷ before) new next deeds → end_of_turned turned ≡ end_of_office end → is_last turned ≡ is_over end
-        → (works : List Work) × (deeds ++ left_deeds (is_over end) o ≡ all_deeds works) × EndsBy (end_of_office end) works × Goes g jg old (at_offices here) works new (at_offices there) × Each IsServing works × AreTurns (turned ∷ before) works
+        → (works : List Work) × (deeds ++ left_deeds (is_over end) o ≡ all_deeds works) × EndsBy (end_of_office end) works × Goes g jg owes old (at_offices here) works new (at_offices there) × Each IsServing works × AreTurns (turned ∷ before) works
     turns_end end turned before old new here there entry next deeds at puts begun go t ends over =
         let first = turns_go before old t.0 here entry t.1 t.2 at begun go t.4 in
         let mid : AtOffices J = first.0 in
@@ -458,7 +462,7 @@ module _ {R J : Type 0} (g : Ghosts R) (jg : JournalGhosts R J) where
               ∙ (append_assoc (all_deeds first.2) t.3 (left_deeds (is_over end) o)
               ∙ (ap (λ (l : List Deed). all_deeds first.2 ++ l) (same ∙ sym (append-nil (t.3 ++ left_deeds (is_last turned) o))) ∙ sym (all_deeds-append first.2 (work ∷ [])))),
           ends-then (end_of_office end) first.2 (work ∷ []) first.4 (ends-one (end_of_office end) work ends),
-          goes-append g jg first.2 (work ∷ []) old t.0 new (at_offices here) (at_offices mid) (at_offices there) first.5 (new, at_offices there, one.2, (refl, refl)),
+          goes-append g jg owes first.2 (work ∷ []) old t.0 new (at_offices here) (at_offices mid) (at_offices there) first.5 (new, at_offices there, one.2, (refl, refl)),
           each-append IsServing first.2 (work ∷ []) first.6 (tt, tt),
           turns_more turned before first.2 one.0 (t.3 ++ left_deeds (is_last turned) o) one.1 first.8,
         )
@@ -467,6 +471,7 @@ module _ {R J : Type 0} (g : Ghosts R) (jg : JournalGhosts R J) where
     record AreFew (end : EntryServed) (works : List Work) : Type 0 where
       few : length works ≤ most_turns
       stays : (c : ℕ) (old : Standing) → stands_in c old works ≡ old
+      lines : (line : List ℕ) → line_in line works ≡ line
       last : (old : Standing) → office_in k old works ≡ stand_of_served end
       others : (j : ℕ) → nat_eq k j ≡ false → (old : Standing) → office_in j old works ≡ old
       turn : any_of (is_office_turn k) works ≡ true
@@ -478,6 +483,7 @@ module _ {R J : Type 0} (g : Ghosts R) (jg : JournalGhosts R J) where
         record {
           few = omega (arith, count, most);
           stays = are.stays;
+          lines = are.lines;
           last = λ old. are.last turned before refl old ∙ (same_stand turned ∙ stands);
           others = are.others;
           turn = are.turn turned before refl;
@@ -487,11 +493,11 @@ module _ {R J : Type 0} (g : Ghosts R) (jg : JournalGhosts R J) where
     -- the office was served
     served_go : (shown counted : Figures) (end : EntryServed) (old new : Desk R) (here there : AtOffices J) (entry next : Entry J) (deeds : List Deed) → here k ≡ Some (o, entry) → Puts here there k (left_at (is_over end) o next) → IsBegun entry
         → IsEntryServed g jg o shown counted old entry end new next deeds
-        → (works : List Work) × (deeds ++ left_deeds (is_over end) o ≡ all_deeds works) × EndsBy (end_of_office end) works × Goes g jg old (at_offices here) works new (at_offices there) × Each IsServing works × AreFew end works
+        → (works : List Work) × (deeds ++ left_deeds (is_over end) o ≡ all_deeds works) × EndsBy (end_of_office end) works × Goes g jg owes old (at_offices here) works new (at_offices there) × Each IsServing works × AreFew end works
     served_go shown counted end old new here there entry next deeds at puts begun s = go s.0 s.1 s.2
       where
         go : (turns : List EntryTurned) → HasTurns g jg o old entry turns new next deeds → IsEnough turns end next
-            → (works : List Work) × (deeds ++ left_deeds (is_over end) o ≡ all_deeds works) × EndsBy (end_of_office end) works × Goes g jg old (at_offices here) works new (at_offices there) × Each IsServing works × AreFew end works
+            → (works : List Work) × (deeds ++ left_deeds (is_over end) o ≡ all_deeds works) × EndsBy (end_of_office end) works × Goes g jg owes old (at_offices here) works new (at_offices there) × Each IsServing works × AreFew end works
         go [] t enough = absurd enough
         go (turned ∷ before) t enough = elim enough.1 [
           | inl ends ↦
@@ -526,23 +532,23 @@ module _ {R J : Type 0} (g : Ghosts R) (jg : JournalGhosts R J) where
         go true = refl
         go false = refl
 
-    module _ (k : ℕ) (clients : Clients S) (flags set : ℕ → Option Bool) (offices next : AtOffices J) where
+    module _ (k : ℕ) (clients : Clients S W) (flags set : ℕ → Option Bool) (offices next : AtOffices J) (line : List ℕ) where
       -- connection k of the land office was served
       pub office_hosts : (shown counted : Figures) (office : Office S J) (result : EntryServed × Option (Office S J)) (from to : Option (List Deed)) (old new : Desk R) → offices k ≡ office_at name (Some office) → Puts offices next k (office_at name result.1) → Puts flags set k (Some (may_go_on result.0))
           → IsBegun office.entry → AddsSome from to (HasOfficeTurns g jg name shown counted old office result new)
-          → Serves g jg (ServesOffice k 8 (standings_of clients offices flags) (standings_of clients next set)) (end_of_office result.0) from old (place_of name clients offices) to new (place_of name clients next)
+          → Serves g jg owes (ServesOffice k 8 (standings_of clients offices flags line) (standings_of clients next set line)) (end_of_office result.0) from old (place_of name clients offices) to new (place_of name clients next)
       office_hosts shown counted office result from to old new at puts sets begun s =
           let t = s.2 in
-          let slots : Held = (place_of name clients offices).slots in
+          let slots : Held W = (place_of name clients offices).slots in
           let left = subst (λ (it : AtOffice J). Puts offices next k it) t.4 puts in
           let go = served_go slots (name office.socket) k shown counted result.0 old new offices next office.entry t.0 t.1 at left begun t.2 in
-          let first = standings_of clients offices flags in
-          let last = standings_of clients next set in
+          let first = standings_of clients offices flags line in
+          let last = standings_of clients next set line in
           let own : (next k ≡ left_at (is_over result.0) (name office.socket) t.0) = left k ∙ rw (eq-eqb k k refl) refl in
           let flag : (set k ≡ Some (may_go_on result.0)) = sets k ∙ rw (eq-eqb k k refl) refl in
           let stands : (last.offices k ≡ stand_of_served result.0) = (ap (λ (it : AtOffice J). standing_office it (set k)) own ∙ ap (λ (it : Option Bool). standing_office (left_at (is_over result.0) (name office.socket) t.0) it) flag) ∙ left_stands result.0 (name office.socket) t.0 in
           let others : ((j : ℕ) → nat_eq k j ≡ false → last.offices j ≡ first.offices j) = (λ j other. ap (λ (it : AtOffice J). standing_office it (set j)) (left j ∙ rw other refl) ∙ ap (λ (it : Option Bool). standing_office (offices j) it) (sets j ∙ rw other refl)) in
-          let paced : IsPaced 8 first last go.0 = record { few = go.5.few; stand = λ c. sym (go.5.stays c (standing_at clients c)); offices = λ j. all_stand go.0 go.5 first last stands others j (nat_eq k j) refl } in
+          let paced : IsPaced 8 first last go.0 = record { few = go.5.few; stand = λ c. sym (go.5.stays c (standing_at clients c)); offices = λ j. all_stand go.0 go.5 first last stands others j (nat_eq k j) refl; line = sym (go.5.lines line) } in
           (go.0, subst (λ (l : List Deed). Adds from to l) (t.3 ∙ go.1) s.1, go.2, go.3, go.4, office_passes k 8 first last go.0 paced (λ c. refl) others go.5.turn go.5.quiet)
         where
           all_stand : (works : List Work) → AreFew (place_of name clients offices).slots (name office.socket) k result.0 works → (first last : Standings) → last.offices k ≡ stand_of_served result.0
@@ -553,11 +559,11 @@ module _ {R J : Type 0} (g : Ghosts R) (jg : JournalGhosts R J) where
 
       -- an answer was written on
       pub sent_hosts : (office : Office S J) (result : EntryTurned × Option (Office S J)) (from to : Option (List Deed)) (old : Desk R) → offices k ≡ office_at name (Some office) → Puts offices next k (office_at name result.1)
-          → AddsSome from to (HasSent name office result) → Hosts g jg IsClosing None from old (place_of name clients offices) to old (place_of name clients next)
+          → AddsSome from to (HasSent name office result) → Hosts g jg owes IsClosing None from old (place_of name clients offices) to old (place_of name clients next)
       sent_hosts office result from to old at puts s =
           let t = s.2 in
           let turn = by_send result.0 t.0 t.1 t.3 in
-          hosts-one g jg IsClosing None from to old old (place_of name clients offices) (place_of name clients next)
+          hosts-one g jg owes IsClosing None from to old old (place_of name clients offices) (place_of name clients next)
           (enters (name office.socket) k [] result.0 s.0 None) s.1 turn.0
           (office.entry, t.0, t.1, at, turn.1 t.2, t.4, turn.2, refl, subst (λ (it : AtOffice J). Puts offices next k it) t.5 puts, (λ c. refl), turn.4) turn.3
         where
@@ -585,11 +591,11 @@ module _ {R J : Type 0} (g : Ghosts R) (jg : JournalGhosts R J) where
       -- the land office comes
       pub came_hosts : (office : Office S J) (socket : S) (from to : Option (List Deed)) (old : Desk R) → k < 4 → offices k ≡ None → office.socket ≡ socket → IsNewEntry office.entry → Puts offices next k (office_at name (Some office)) → Puts flags set k (Some true)
           → Adds from to (office_came (name socket) ∷ [])
-          → Serves g jg (IsAtDoors 1 (standings_of clients offices flags) (standings_of clients next set)) None from old (place_of name clients offices) to old (place_of name clients next)
+          → Serves g jg owes (IsAtDoors 1 (standings_of clients offices flags line) (standings_of clients next set line)) None from old (place_of name clients offices) to old (place_of name clients next)
       came_hosts office socket from to old within free same is_new puts sets adds =
-          serves-one g jg (IsAtDoors 1 (standings_of clients offices flags) (standings_of clients next set)) None from to old old (place_of name clients offices) (place_of name clients next) (office_comes (name socket) k) adds refl
+          serves-one g jg owes (IsAtDoors 1 (standings_of clients offices flags line) (standings_of clients next set line)) None from to old old (place_of name clients offices) (place_of name clients next) (office_comes (name socket) k) adds refl
           (office.entry, free, is_new, subst (λ (it : S). Puts offices next k (Some (name it, office.entry))) same puts, (λ c. refl), refl, within) tt
-          (record { paced = record { few = omega arith; stand = λ c. refl; offices = λ j. go j (nat_eq k j) refl }; quiet = λ c. refl })
+          (record { paced = record { few = omega arith; stand = λ c. refl; offices = λ j. go j (nat_eq k j) refl; line = refl }; quiet = λ c. refl })
         where
           go : (j : ℕ) (own : Bool) → nat_eq k j ≡ own → standing_office (next j) (set j) ≡ (if nat_eq k j then ready else standing_office (offices j) (flags j))
           go j true e = rw (puts j, sets j, e) refl
@@ -597,18 +603,18 @@ module _ {R J : Type 0} (g : Ghosts R) (jg : JournalGhosts R J) where
 
       -- it is let go
       pub left_hosts : (office : Office S J) (from to : Option (List Deed)) (old : Desk R) → offices k ≡ office_at name (Some office) → Puts offices next k None → Adds from to (left (name office.socket) ∷ [])
-          → Hosts g jg IsClosing None from old (place_of name clients offices) to old (place_of name clients next)
+          → Hosts g jg owes IsClosing None from old (place_of name clients offices) to old (place_of name clients next)
       left_hosts office from to old at puts adds =
-          hosts-one g jg IsClosing None from to old old (place_of name clients offices) (place_of name clients next) (office_leaves (name office.socket) k false) adds refl
+          hosts-one g jg owes IsClosing None from to old old (place_of name clients offices) (place_of name clients next) (office_leaves (name office.socket) k false) adds refl
           (office.entry, at, puts, (λ c. refl), refl, (λ clash. absurd (let same : false ≡ true = clash in cc))) refl
 
       -- it is dropped, since its answer is overdue
       pub dropped_office : (office : Office S J) (from to : Option (List Deed)) (old : Desk R) → offices k ≡ office_at name (Some office) → Puts offices next k None → IsSending office.entry → Adds from to (left (name office.socket) ∷ [])
-          → Serves g jg (IsAtDoors 1 (standings_of clients offices flags) (standings_of clients next flags)) None from old (place_of name clients offices) to old (place_of name clients next)
+          → Serves g jg owes (IsAtDoors 1 (standings_of clients offices flags line) (standings_of clients next flags line)) None from old (place_of name clients offices) to old (place_of name clients next)
       dropped_office office from to old at puts sending adds =
-          serves-one g jg (IsAtDoors 1 (standings_of clients offices flags) (standings_of clients next flags)) None from to old old (place_of name clients offices) (place_of name clients next) (office_leaves (name office.socket) k true) adds refl
+          serves-one g jg owes (IsAtDoors 1 (standings_of clients offices flags line) (standings_of clients next flags line)) None from to old old (place_of name clients offices) (place_of name clients next) (office_leaves (name office.socket) k true) adds refl
           (office.entry, at, puts, (λ c. refl), refl, (λ same. sending)) refl
-          (record { paced = record { few = omega arith; stand = λ c. refl; offices = λ j. go j (nat_eq k j) refl }; quiet = λ c. refl })
+          (record { paced = record { few = omega arith; stand = λ c. refl; offices = λ j. go j (nat_eq k j) refl; line = refl }; quiet = λ c. refl })
         where
           go : (j : ℕ) (own : Bool) → nat_eq k j ≡ own → standing_office (next j) (flags j) ≡ (if nat_eq k j then absent else standing_office (offices j) (flags j))
           go j true e = rw (puts j, e) refl
@@ -634,10 +640,10 @@ module _ {R J : Type 0} (g : Ghosts R) (jg : JournalGhosts R J) where
         begun_at result.0 (name office.socket) t.0 result.1 (served_begun (name office.socket) shown counted result.0 old new office.entry t.0 t.1 begun t.2) t.4
 
     -- the office comes, and the network can't tell of it
-    pub unwatched_hosts : (t : ℕ) (from mid to : Option (List Deed)) (old : Desk R) (here : Place J) (stand : Standings) → Adds from mid (office_came t ∷ []) → Adds mid to (left t ∷ []) → Serves g jg (IsAtDoors 1 stand stand) None from old here to old here
+    pub unwatched_hosts : (t : ℕ) (from mid to : Option (List Deed)) (old : Desk R) (here : Place J W) (stand : Standings) → Adds from mid (office_came t ∷ []) → Adds mid to (left t ∷ []) → Serves g jg owes (IsAtDoors 1 stand stand) None from old here to old here
     unwatched_hosts t from mid to old here stand comes goes =
-        serves-one g jg (IsAtDoors 1 stand stand) None from to old old here here (aside (office_came t ∷ left t ∷ []) None) (Adds-trans from mid to (office_came t ∷ []) (left t ∷ []) comes goes) refl
-        (tt, refl, (λ c. refl), inr (inr (t, refl)), λ k. refl) tt (record { paced = record { few = omega arith; stand = λ c. refl; offices = λ k. refl }; quiet = λ c. refl })
+        serves-one g jg owes (IsAtDoors 1 stand stand) None from to old old here here (aside (office_came t ∷ left t ∷ []) None) (Adds-trans from mid to (office_came t ∷ []) (left t ∷ []) comes goes) refl
+        (tt, refl, (λ c. refl), inr (inr (t, refl)), λ k. refl) tt (record { paced = record { few = omega arith; stand = λ c. refl; offices = λ k. refl; line = refl }; quiet = λ c. refl })
 
 -- the connection that was taken out is the one that was here
 pub was_begun : {S J : Type 0} (office : Office S J) (k : ℕ) (offices : Offices S J) → Some office ≡ seat_at offices k → HaveBegun offices → IsBegun office.entry
@@ -681,10 +687,10 @@ all_begun {S} {J} None k one offices next begun seats has = record { each = λ j
 all_begun (Some stopped) k one offices next begun seats has = tt
 
 -- it is not open, and so has no turn
-pub none_served : {S J : Type 0} (k : ℕ) (clients : Clients S) (flags set : ℕ → Option Bool) (offices next : AtOffices J) (is_ready : Bool) → offices k ≡ None → Same offices next → Puts flags set k (Some is_ready)
-    → ServesOffice k 8 (standings_of clients offices flags) (standings_of clients next set) (aside [] None ∷ [])
-none_served {S} {J} k clients flags set offices next is_ready free same sets = record {
-  passes = record { paced = record { few = omega arith; stand = λ c. refl; offices = stands }; kept = λ c is. inr is; kept_office = λ j is. inr (stands j ∙ is) };
+pub none_served : {S J W : Type 0} (k : ℕ) (clients : Clients S W) (flags set : ℕ → Option Bool) (offices next : AtOffices J) (line : List ℕ) (is_ready : Bool) → offices k ≡ None → Same offices next → Puts flags set k (Some is_ready)
+    → ServesOffice k 8 (standings_of clients offices flags line) (standings_of clients next set line) (aside [] None ∷ [])
+none_served {S} {J} k clients flags set offices next line is_ready free same sets = record {
+  passes = record { paced = record { few = omega arith; stand = λ c. refl; offices = stands; line = refl }; kept = λ c is. inr is; kept_office = λ j is. inr (stands j ∙ is) };
   quiet = λ c. refl;
   turn = λ is. (let clash : absent ≡ ready = sym (ap (λ (it : AtOffice J). standing_office it (flags k)) free) ∙ is in cc);
 }

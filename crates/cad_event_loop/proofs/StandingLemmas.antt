@@ -3,15 +3,16 @@ use Rattle.std.proofs.Common.{◌≡◌, ◌⊎◌, inl, inr, ℕ, nat_eq, ◌+�
 use Rattle.std.proofs.lemmas.Bool.{cases_lt, eqb-true}
 use Rattle.std.proofs.lemmas.Option.{slice_get_past}
 use Rattle.cad_network.specs.lemmas.DeedLemmas.{or_none}
-use Rattle.cad_clients.specs.Channels.{fed}
+use Rattle.cad_clients.specs.Channels.{fed, is_working}
 use Rattle.cad_clients.specs.declared.client.Client.{Client}
 use Rattle.cad_clients.specs.declared.clients.Clients.{Clients}
 use Rattle.cad_clients.specs.Notes.{MayGoOn}
 use Rattle.cad_clients.specs.Slots.{client_in, client_at}
 use Rattle.cad_event_loop.specs.declared.peers.Peers.{Peers}
 use Rattle.cad_event_loop.specs.declared.stopped.Stopped.{Stopped}
-use Rattle.cad_event_loop.specs.inner.Standing.{standing_of, standing_at, standing_office, standings, IsAsked, IsPaced, IsAtDoors, LosesNobody, flag_at, ServesOffice, most_for_office, ServesOfficesBelow, ServesOffices, GivesTurn, GivesTurnAlone, HasVisits, HearsBetween, VisitsClient, most_for_one, GivesTurnsBelow, IfWhole, ServesAll, ServesEach, MakesRound, MadeRounds}
-use Rattle.cad_event_loop.specs.Turns.{Standing, absent, waiting, ready, Standings, woken, is_among, office_place, stands_after, stands_in, office_after, office_in, all_after, is_turn_of, is_wait_of, is_end_of, is_office_turn, any_of, turns_of, written_by, written_to, Replies, HasEnough, EachHasTurn, IsQuiet, HearsOffice, IsVisit, AreVisits, ComesByVisits, GivesTurns, most_in_round, IsRound, AreRounds, all_works, AreServed}
+use Rattle.cad_event_loop.specs.inner.Line.{standing_of, standing_at, first_of}
+use Rattle.cad_event_loop.specs.inner.Standing.{standing_office, standings, IsAsked, IsPaced, IsAtDoors, LosesNobody, flag_at, ServesOffice, most_for_office, ServesOfficesBelow, ServesOffices, GivesTurn, GivesTurnAlone, GivesPiece, WorksOnFirst, ComesToPiece, ServesPeers, most_for_piece, HasVisits, HearsBetween, VisitsClient, most_for_one, GivesTurnsBelow, IfWhole, ServesAll, ServesEach, MakesRound, MadeRounds}
+use Rattle.cad_event_loop.specs.Turns.{Standing, absent, waiting, ready, working, Standings, woken, is_among, office_place, stands_after, stands_in, office_after, office_in, line_after, line_in, all_after, is_turn_of, is_wait_of, is_end_of, is_piece_of, is_office_turn, any_of, turns_of, pieces_of, written_by, written_to, Replies, WorksOn, HasEnough, EachHasTurn, IsQuiet, HearsOffice, IsVisit, AreVisits, IsPiece, HasPiece, ComesByVisits, GivesTurns, most_in_round, IsRound, AreRounds, all_works, AreServed}
 use Rattle.cad_event_loop.specs.Works.{AtOffice, AtOffices, Work, wakes, opens, acts, waits, ends, office_comes, enters, office_leaves, aside}
 
 pub stands_in-append : (c : ℕ) (old : Standing) (xs ys : List Work) → stands_in c old (xs ++ ys) ≡ stands_in c (stands_in c old xs) ys
@@ -21,6 +22,10 @@ stands_in-append c old (work ∷ xs) ys = stands_in-append c (stands_after c old
 pub office_in-append : (k : ℕ) (old : Standing) (xs ys : List Work) → office_in k old (xs ++ ys) ≡ office_in k (office_in k old xs) ys
 office_in-append k old [] ys = refl
 office_in-append k old (work ∷ xs) ys = office_in-append k (office_after k old work) xs ys
+
+pub line_in-append : (line : List ℕ) (xs ys : List Work) → line_in line (xs ++ ys) ≡ line_in (line_in line xs) ys
+line_in-append line [] ys = refl
+line_in-append line (work ∷ xs) ys = line_in-append (line_after line work) xs ys
 
 -- whoever stands alike stands alike after this
 alike_after : (k : ℕ) (a b : Standing) (works : List Work) → a ≡ b → office_in k a works ≡ office_in k b works
@@ -83,6 +88,7 @@ visit_alike a b visit same v = record {
   later = v.later;
   all = v.all;
   alone = v.alone;
+  pieces = v.pieces;
   quiet = v.quiet;
   hears = λ k. subst (λ (it : Standing). HearsOffice k it v.later) (alike_after k (a k) (b k) v.own (sym (same k))) (v.hears k);
 }
@@ -95,8 +101,27 @@ visits_alike a b (visit ∷ visits) same are =
 has_alike : (a b : ℕ → Standing) (works : List Work) → ((k : ℕ) → b k ≡ a k) → HasVisits a works → HasVisits b works
 has_alike a b works same x = record { visits = x.visits; all = x.all; are = visits_alike a b x.visits same x.are }
 
-comes_alike : (a b : ℕ → Standing) (works : List Work) → ((k : ℕ) → b k ≡ a k) → ComesByVisits a works → ComesByVisits b works
-comes_alike a b works same x = record { visits = x.visits; rest = x.rest; all = x.all; are = visits_alike a b x.visits same x.are; quiet = x.quiet }
+piece_alike : (line : List ℕ) (a b : ℕ → Standing) (works : List Work) → ((k : ℕ) → b k ≡ a k) → HasPiece line a works → HasPiece line b works
+piece_alike [] a b works same x = x
+piece_alike (first ∷ rest) a b works same x = record {
+  piece = x.piece;
+  later = x.later;
+  all = x.all;
+  is = x.is;
+  quiet = x.quiet;
+  hears = λ k. subst (λ (it : Standing). HearsOffice k (office_after k it x.piece) x.later) (sym (same k)) (x.hears k);
+}
+
+comes_alike : (line : List ℕ) (a b : ℕ → Standing) (works : List Work) → ((k : ℕ) → b k ≡ a k) → ComesByVisits line a works → ComesByVisits line b works
+comes_alike line a b works same x = record {
+  visits = x.visits;
+  piece = x.piece;
+  rest = x.rest;
+  all = x.all;
+  are = visits_alike a b x.visits same x.are;
+  works_on = piece_alike (line_in line (all_works x.visits)) (offices_in a (all_works x.visits)) (offices_in b (all_works x.visits)) x.piece (λ k. alike_after k (b k) (a k) (all_works x.visits) (same k)) x.works_on;
+  quiet = x.quiet;
+}
 
 visits-append : (stands : ℕ → Standing) (xs ys : List (List Work)) → AreVisits stands xs → AreVisits (offices_in stands (all_works xs)) ys → AreVisits stands (xs ++ ys)
 visits-append stands [] ys x y = y
@@ -123,6 +148,10 @@ pub turns_of-append : (c : ℕ) (xs ys : List Work) → turns_of c (xs ++ ys) �
 turns_of-append c [] ys = none_before (turns_of c ys)
 turns_of-append c (work ∷ xs) ys = sum_more (if is_turn_of c work then 1 else 0) (turns_of c xs) (turns_of c ys) (turns_of c (xs ++ ys)) (turns_of-append c xs ys)
 
+pub pieces_of-append : (c : ℕ) (xs ys : List Work) → pieces_of c (xs ++ ys) ≡ pieces_of c xs + pieces_of c ys
+pieces_of-append c [] ys = none_before (pieces_of c ys)
+pieces_of-append c (work ∷ xs) ys = sum_more (if is_piece_of c work then 1 else 0) (pieces_of c xs) (pieces_of c ys) (pieces_of c (xs ++ ys)) (pieces_of-append c xs ys)
+
 pub written_to-append : (c : ℕ) (xs ys : List Work) → written_to c (xs ++ ys) ≡ written_to c xs ++ written_to c ys
 written_to-append c [] ys = refl
 written_to-append c (work ∷ xs) ys = ap (λ (l : List ℕ). written_by c work ++ l) (written_to-append c xs ys) ∙ sym (append_assoc (written_by c work) (written_to c xs) (written_to c ys))
@@ -135,9 +164,10 @@ replies_left c xs ys r = record {
   piece = r.piece;
   out = r.out;
   over = r.over;
+  owing = r.owing;
   more = r.more ++ written_to c ys;
-  all = ap (λ (l : List Work). l ++ ys) r.all ∙ append_assoc r.before (acts r.s c (fed r.piece r.out r.over) ∷ r.later) ys;
-  written = written_to-append c r.later ys ∙ (ap (λ (l : List ℕ). l ++ written_to c ys) r.written ∙ append_assoc r.out.items r.more (written_to c ys));
+  all = ap (λ (l : List Work). l ++ ys) r.all ∙ append_assoc r.before (acts r.s c (fed r.piece r.out r.over) r.owing ∷ r.later) ys;
+  written = written_to-append c r.later ys ∙ (ap (λ (l : List ℕ). l ++ written_to c ys) r.written ∙ append_assoc r.out r.more (written_to c ys));
 }
 
 replies_right : (c : ℕ) (xs ys : List Work) → Replies c ys → Replies c (xs ++ ys)
@@ -148,10 +178,37 @@ replies_right c xs ys r = record {
   piece = r.piece;
   out = r.out;
   over = r.over;
+  owing = r.owing;
   more = r.more;
-  all = ap (λ (l : List Work). xs ++ l) r.all ∙ sym (append_assoc xs r.before (acts r.s c (fed r.piece r.out r.over) ∷ r.later));
+  all = ap (λ (l : List Work). xs ++ l) r.all ∙ sym (append_assoc xs r.before (acts r.s c (fed r.piece r.out r.over) r.owing ∷ r.later));
   written = r.written;
 }
+
+works_on_left : (c : ℕ) (xs ys : List Work) → WorksOn c xs → WorksOn c (xs ++ ys)
+works_on_left c xs ys w = record {
+  before = w.before;
+  later = w.later ++ ys;
+  s = w.s;
+  act = w.act;
+  all = ap (λ (l : List Work). l ++ ys) w.all ∙ append_assoc (w.before ++ acts w.s c w.act true ∷ []) w.later ys;
+  piece = w.piece;
+}
+
+works_on_right : (c : ℕ) (xs ys : List Work) → WorksOn c ys → WorksOn c (xs ++ ys)
+works_on_right c xs ys w =
+    let last : List Work = acts w.s c w.act true ∷ [] in
+    let same : (xs ++ w.before) ++ last ≡ xs ++ (w.before ++ last) = append_assoc xs w.before last in
+    let count = pieces_of-append c xs (w.before ++ last) in
+    let some = w.piece in
+    let more : 1 ≤ pieces_of c (xs ++ (w.before ++ last)) = omega (arith, count, some) in
+    record {
+      before = xs ++ w.before;
+      later = w.later;
+      s = w.s;
+      act = w.act;
+      all = ap (λ (l : List Work). xs ++ l) w.all ∙ (sym (append_assoc xs (w.before ++ last) w.later) ∙ ap (λ (l : List Work). l ++ w.later) (sym same));
+      piece = subst (λ (l : List Work). 1 ≤ pieces_of c l) (sym same) more;
+    }
 
 pub enough_left : (c : ℕ) (xs ys : List Work) → HasEnough c xs → HasEnough c (xs ++ ys)
 enough_left c xs ys h = record {
@@ -164,7 +221,11 @@ enough_left c xs ys h = record {
           | inr more ↦
               elim more [
                 | inl replied ↦ inr (inr (inl (replies_left c xs ys replied)))
-                | inr four ↦ inr (inr (inr (let sum = turns_of-append c xs ys in omega (arith, sum, four))))
+                | inr most ↦
+                    elim most [
+                      | inl did ↦ inr (inr (inr (inl (works_on_left c xs ys did))))
+                      | inr four ↦ inr (inr (inr (inr (let sum = turns_of-append c xs ys in omega (arith, sum, four)))))
+                    ]
               ]
         ]
   ];
@@ -181,7 +242,11 @@ enough_right c xs ys h = record {
           | inr more ↦
               elim more [
                 | inl replied ↦ inr (inr (inl (replies_right c xs ys replied)))
-                | inr four ↦ inr (inr (inr (let sum = turns_of-append c xs ys in omega (arith, sum, four))))
+                | inr most ↦
+                    elim most [
+                      | inl did ↦ inr (inr (inr (inl (works_on_right c xs ys did))))
+                      | inr four ↦ inr (inr (inr (inr (let sum = turns_of-append c xs ys in omega (arith, sum, four)))))
+                    ]
               ]
         ]
   ];
@@ -192,6 +257,9 @@ none_ready e = cc
 
 pub waiting_ready : waiting ≡ ready → ⊥
 waiting_ready e = cc
+
+pub working_ready : working ≡ ready → ⊥
+working_ready e = cc
 
 woken_if : (told : Bool) (old : Standing) → old ≡ ready → (if told then woken old else old) ≡ ready
 woken_if true old is = ap woken is
@@ -208,12 +276,14 @@ whole (Ok None) Had So so had = so had
 whole (Ok (Some stopped)) Had So so had = tt
 whole (Err error) Had So so had = tt
 
-visits_more : (stands : ℕ → Standing) (xs ys : List Work) → IsQuiet ys → ComesByVisits stands xs → ComesByVisits stands (xs ++ ys)
-visits_more stands xs ys quiet x = record {
+visits_more : (line : List ℕ) (stands : ℕ → Standing) (xs ys : List Work) → IsQuiet ys → ComesByVisits line stands xs → ComesByVisits line stands (xs ++ ys)
+visits_more line stands xs ys quiet x = record {
   visits = x.visits;
+  piece = x.piece;
   rest = x.rest ++ ys;
-  all = ap (λ (l : List Work). l ++ ys) x.all ∙ append_assoc (all_works x.visits) x.rest ys;
+  all = ap (λ (l : List Work). l ++ ys) x.all ∙ (append_assoc (all_works x.visits) (x.piece ++ x.rest) ys ∙ ap (λ (l : List Work). all_works x.visits ++ l) (append_assoc x.piece x.rest ys));
   are = x.are;
+  works_on = x.works_on;
   quiet = quiet-append x.rest ys x.quiet quiet;
 }
 
@@ -221,10 +291,10 @@ gives_more : (stands : Standings) (xs ys : List Work) → IsQuiet ys → GivesTu
 gives_more stands [] ys quiet gives = absurd gives
 gives_more stands (wakes places ∷ xs) ys quiet gives = (
   record { clients = λ c is. enough_left c xs ys (gives.0.clients c is); offices = λ k is. any_left (is_office_turn k) xs ys (gives.0.offices k is) },
-  visits_more (λ k. office_after k (stands.offices k) (wakes places)) xs ys quiet gives.1,
+  visits_more stands.line (λ k. office_after k (stands.offices k) (wakes places)) xs ys quiet gives.1,
 )
 gives_more stands (opens s c ∷ xs) ys quiet gives = absurd gives
-gives_more stands (acts s c act ∷ xs) ys quiet gives = absurd gives
+gives_more stands (acts s c act owing ∷ xs) ys quiet gives = absurd gives
 gives_more stands (waits s c ∷ xs) ys quiet gives = absurd gives
 gives_more stands (ends s c cause deeds said ∷ xs) ys quiet gives = absurd gives
 gives_more stands (office_comes o k ∷ xs) ys quiet gives = absurd gives
@@ -246,13 +316,14 @@ paced-append m n most a b d xs ys within x y =
       few = omega (arith, count, few, more, within);
       stand = λ c. y.stand c ∙ (ap (λ (it : Standing). stands_in c it ys) (x.stand c) ∙ sym (stands_in-append c (a.clients c) xs ys));
       offices = λ k. y.offices k ∙ (ap (λ (it : Standing). office_in k it ys) (x.offices k) ∙ sym (office_in-append k (a.offices k) xs ys));
+      line = y.line ∙ (ap (λ (it : List ℕ). line_in it ys) x.line ∙ sym (line_in-append a.line xs ys));
     }
 
 pub paced-nil : (most : ℕ) (a : Standings) → IsPaced most a a []
-paced-nil most a = record { few = omega arith; stand = λ c. refl; offices = λ k. refl }
+paced-nil most a = record { few = omega arith; stand = λ c. refl; offices = λ k. refl; line = refl }
 
 pub paced-more : (m most : ℕ) (a b : Standings) (xs : List Work) → m ≤ most → IsPaced m a b xs → IsPaced most a b xs
-paced-more m most a b xs within x = let few = x.few in record { few = omega (arith, few, within); stand = x.stand; offices = x.offices }
+paced-more m most a b xs within x = let few = x.few in record { few = omega (arith, few, within); stand = x.stand; offices = x.offices; line = x.line }
 
 pub doors-append : (m n most : ℕ) (a b d : Standings) (xs ys : List Work) → m + n ≤ most → IsAtDoors m a b xs → IsAtDoors n b d ys → IsAtDoors most a d (xs ++ ys)
 doors-append m n most a b d xs ys within x y = record { paced = paced-append m n most a b d xs ys within x.paced y.paced; quiet = quiet-append xs ys x.quiet y.quiet }
@@ -312,7 +383,7 @@ pub office_rests : {J : Type 0} (office : AtOffice J) → standing_office office
 office_rests None e = none_ready e
 office_rests (Some office) e = waiting_ready e
 
-pub office_unready : {S J : Type 0} (k : ℕ) (peers : Peers S) (offices : AtOffices J) → Some false ≡ flag_at peers.ready k → ServesOffice k 8 (standings peers offices) (standings peers offices) []
+pub office_unready : {S J W : Type 0} (k : ℕ) (peers : Peers S W) (offices : AtOffices J) → Some false ≡ flag_at peers.ready k → ServesOffice k 8 (standings peers offices) (standings peers offices) []
 office_unready k peers offices unready = office_none k 8 (standings peers offices) (λ is. office_rests (offices k) (ap (λ (flag : Option Bool). standing_office (offices k) flag) unready ∙ is))
 
 -- the connections of the land office have their turns, one after the other
@@ -354,7 +425,7 @@ offices_cut stopped k a b d xs ys within x y = record {
 }
 
 -- no connection has a number above the last
-pub offices_beyond : {S J : Type 0} (peers : Peers S) (offices : AtOffices J) (k : ℕ) → 4 ≤ k → (standings peers offices).offices k ≡ absent
+pub offices_beyond : {S J W : Type 0} (peers : Peers S W) (offices : AtOffices J) (k : ℕ) → 4 ≤ k → (standings peers offices).offices k ≡ absent
 offices_beyond {S} {J} peers offices k past =
     let room = peers.ready.room in
     ap (λ (flag : Option Bool). standing_office (offices k) flag) (slice_get_past peers.ready.offices k (omega (arith, past, room))) ∙ go (offices k)
@@ -369,6 +440,9 @@ asked_stands a b xs asked c = asked.2.stand c ∙ ap (λ (l : List Work). stands
 
 pub asked_office : (a b : Standings) (xs : List Work) → (asked : IsAsked a b xs) → (k : ℕ) → b.offices k ≡ office_in k (a.offices k) (wakes asked.0 ∷ [])
 asked_office a b xs asked k = asked.2.offices k ∙ ap (λ (l : List Work). office_in k (a.offices k) l) asked.1
+
+asked_line : (a b : Standings) (xs : List Work) → IsAsked a b xs → b.line ≡ a.line
+asked_line a b xs asked = asked.2.line ∙ ap (λ (l : List Work). line_in a.line l) asked.1
 
 pub asked_quiet : (a b : Standings) (xs : List Work) → IsAsked a b xs → IsQuiet xs
 asked_quiet a b xs asked = subst IsQuiet (sym asked.1) (λ c. refl)
@@ -390,16 +464,17 @@ turn_then c m n most a b d xs ys within x y = record {
 pub turn_more : (c m most : ℕ) (a b : Standings) (xs : List Work) → m ≤ most → GivesTurn c m a b xs → GivesTurn c most a b xs
 turn_more c m most a b xs within x = record { passes = passes-more m most a b xs within x.passes; turn = x.turn }
 
-is_ready_of : {S : Type 0} (o : Option (Client S)) → standing_of o ≡ ready → IsSomeAnd o MayGoOn
+is_ready_of : {S W : Type 0} (o : Option (Client S W)) → standing_of o ≡ ready → IsSomeAnd o MayGoOn
 is_ready_of None e = absurd (none_ready e)
-is_ready_of (Some client) e = go client.is_ready e
+is_ready_of (Some client) e = go (is_working client.channel) client.is_ready e
   where
-    go : (is : Bool) → (if is then ready else waiting) ≡ ready → is ≡ true
-    go true e = refl
-    go false e = absurd (waiting_ready e)
+    go : (works is : Bool) → (if works then working else (if is then ready else waiting)) ≡ ready → (is ≡ true) × (works ≡ false)
+    go true is e = absurd (working_ready e)
+    go false true e = (refl, refl)
+    go false false e = absurd (waiting_ready e)
 
 -- it has none, since it may not go on
-pub turn_none : {S J : Type 0} (c most : ℕ) (peers : Peers S) (offices : AtOffices J) → (IsSomeAnd (client_at peers.clients c) MayGoOn → ⊥) → GivesTurn c most (standings peers offices) (standings peers offices) []
+pub turn_none : {S J W : Type 0} (c most : ℕ) (peers : Peers S W) (offices : AtOffices J) → (IsSomeAnd (client_at peers.clients c) MayGoOn → ⊥) → GivesTurn c most (standings peers offices) (standings peers offices) []
 turn_none c most peers offices not = record { passes = passes-nil most (standings peers offices); turn = λ is. absurd (not (is_ready_of (client_at peers.clients c) is)) }
 
 -- the network tells, and then the land office has its turns
@@ -424,7 +499,7 @@ visit_one : (c m n : ℕ) (E : Type 0) (a b d : Standings) (xs ys : List Work) �
 visit_one c m n E a b d xs ys x y = record {
   visits = (xs ++ ys) ∷ [];
   all = sym (append-nil (xs ++ ys));
-  are = (record { c = c; own = xs; later = ys; all = refl; alone = x.alone; quiet = y.quiet; hears = λ k. subst (λ (it : Standing). HearsOffice k it ys) (x.gives.passes.paced.offices k) (y.hears k) }, tt);
+  are = (record { c = c; own = xs; later = ys; all = refl; alone = x.alone; pieces = x.pieces; quiet = y.quiet; hears = λ k. subst (λ (it : Standing). HearsOffice k it ys) (x.gives.passes.paced.offices k) (y.hears k) }, tt);
 }
 
 pub visit_then : {E : Type 0} (result : Result (Option Stopped) E) (c : ℕ) (a b d : Standings) (xs ys : List Work) → GivesTurnAlone c 4 a b xs → HearsBetween 33 result b d ys → VisitsClient c 37 result a d (xs ++ ys)
@@ -440,7 +515,7 @@ pub visit_cut : {E : Type 0} (stopped : Stopped) (c : ℕ) (a b : Standings) (xs
 visit_cut stopped c a b xs x = record { gives = turn_more c 4 37 a b xs (omega arith) x.gives; visits = tt }
 
 -- there is no visit, since it may not go on
-pub visit_none : {S E J : Type 0} (c : ℕ) (peers : Peers S) (offices : AtOffices J) → (IsSomeAnd (client_at peers.clients c) MayGoOn → ⊥) → VisitsClient {E = E} c 37 (Ok None) (standings peers offices) (standings peers offices) []
+pub visit_none : {S E J W : Type 0} (c : ℕ) (peers : Peers S W) (offices : AtOffices J) → (IsSomeAnd (client_at peers.clients c) MayGoOn → ⊥) → VisitsClient {E = E} c 37 (Ok None) (standings peers offices) (standings peers offices) []
 visit_none c peers offices not = record { gives = turn_none c 37 peers offices not; visits = visits-nil (standings peers offices).offices }
 
 pub below-nil : (a : Standings) → GivesTurnsBelow 0 a a []
@@ -462,8 +537,8 @@ below-then c a b d xs ys x y = record {
 }
 
 -- no number is above the last
-pub beyond : {S : Type 0} (clients : Clients S) (d : ℕ) → 64 ≤ d → standing_at clients d ≡ absent
-beyond {S} clients d past = let room = clients.room in ap (λ (o : Option (Option (Client S))). standing_of (client_in o)) (slice_get_past clients.slots.items d (omega (arith, past, room)))
+pub beyond : {S W : Type 0} (clients : Clients S W) (d : ℕ) → 64 ≤ d → standing_at clients d ≡ absent
+beyond {S} {W} clients d past = let room = clients.room in ap (λ (o : Option (Option (Client S W))). standing_of (client_in o)) (slice_get_past clients.slots.items d (omega (arith, past, room)))
 
 pub all_served : {E : Type 0} (c : ℕ) (a b : Standings) (xs : List Work) → ((d : ℕ) → 64 ≤ d → a.clients d ≡ absent) → 64 ≤ c → c ≤ 64 → GivesTurnsBelow c a b xs → ServesAll {E = E} (Ok None) a b xs
 all_served c a b xs none least most x = record {
@@ -490,11 +565,71 @@ some_served result c a b d xs ys within cut x y = record {
 pub error_served : {E F : Type 0} (error : E) (other : F) (c : ℕ) (a b d : Standings) (xs ys : List Work) → c < 64 → GivesTurnsBelow c a b xs → VisitsClient c most_for_one (Err other) b d ys → ServesAll (Err error) a d (xs ++ ys)
 error_served error other c a b d xs ys within x y = record { paced = (some_served (Err other) c a b d xs ys within tt x y).paced; turns = tt; kept_office = (some_served (Err other) c a b d xs ys within tt x y).kept_office }
 
+-- the first of the line is this one
+has_first : (c : ℕ) (line : List ℕ) (stands : ℕ → Standing) (works : List Work) → Some c ≡ first_of line → IsPiece c stands works → HasPiece line stands works
+has_first c [] stands works is piece = absurd (let clash : ◌≡◌ {A = Option ℕ} (Some c) None = is in cc)
+has_first c (first ∷ rest) stands works is piece = let same : c ≡ first = cc in subst (λ (n : ℕ). IsPiece n stands works) same piece
+
+-- or there is none
+has_none : (line : List ℕ) (stands : ℕ → Standing) → None ≡ first_of line → HasPiece line stands []
+has_none [] stands is = refl
+has_none (first ∷ rest) stands is = absurd (let clash : ◌≡◌ {A = Option ℕ} None (Some first) = is in cc)
+
+-- a piece of work for the first of the line, and then the land office
+pub works_on_then : {E : Type 0} (result : Result (Option Stopped) E) (c : ℕ) (a b d : Standings) (xs ys : List Work) → Some c ≡ first_of a.line → GivesPiece c a b xs → HearsBetween 33 result b d ys → WorksOnFirst result a d (xs ++ ys)
+works_on_then {E} result c a b d xs ys is x y = record { passes = passes-append 1 33 most_for_piece a b d xs ys (omega arith) x.passes y.passes; piece = go result y }
+  where
+    one : HearsBetween {E = E} 33 (Ok None) b d ys → IsPiece c a.offices (xs ++ ys)
+    one y = record {
+      piece = x.piece;
+      later = ys;
+      all = ap (λ (l : List Work). l ++ ys) x.all;
+      is = x.is;
+      quiet = y.quiet;
+      hears = λ k. subst (λ (it : Standing). HearsOffice k it ys) (x.passes.paced.offices k ∙ ap (λ (l : List Work). office_in k (a.offices k) l) x.all) (y.hears k);
+    }
+
+    go : (result : Result (Option Stopped) E) → HearsBetween 33 result b d ys → IfWhole result (HasPiece a.line a.offices (xs ++ ys))
+    go (Ok None) y = has_first c a.line a.offices (xs ++ ys) is (one y)
+    go (Ok (Some stopped)) y = tt
+    go (Err error) y = tt
+
+-- no reply is worked on
+pub works_on_none : {E : Type 0} (a : Standings) → None ≡ first_of a.line → WorksOnFirst {E = E} (Ok None) a a []
+works_on_none a is = record { passes = passes-nil most_for_piece a; piece = has_none a.line a.offices is }
+
+-- the clients have their turns, and then the first of the line its piece of work
+pub peers_then : {E : Type 0} (result : Result (Option Stopped) E) (a b d : Standings) (xs ys : List Work) → ServesAll {E = E} (Ok None) a b xs → WorksOnFirst result b d ys → ServesPeers result a d (xs ++ ys)
+peers_then {E} result a b d xs ys x y = record {
+  paced = paced-append 2368 34 2402 a b d xs ys (omega arith) x.paced y.passes.paced;
+  turns = whole result (HasPiece b.line b.offices ys) (((c : ℕ) → a.clients c ≡ ready → HasEnough c (xs ++ ys)) × ComesToPiece a.line a.offices (xs ++ ys)) (λ has. (
+    (λ c is. enough_left c xs ys (x.turns.0 c is)),
+    record { visits = x.turns.1.visits; piece = ys; all = ap (λ (l : List Work). l ++ ys) x.turns.1.all; are = x.turns.1.are; works_on = works_on has },
+  )) y.piece;
+  kept_office = kept_then a b d xs ys x.kept_office y.passes.kept_office;
+}
+  where
+    all : xs ≡ all_works x.turns.1.visits
+    all = x.turns.1.all
+
+    works_on : HasPiece b.line b.offices ys → HasPiece (line_in a.line (all_works x.turns.1.visits)) (offices_in a.offices (all_works x.turns.1.visits)) ys
+    works_on has =
+        subst (λ (l : List ℕ). HasPiece l (offices_in a.offices (all_works x.turns.1.visits)) ys) (x.paced.line ∙ ap (λ (l : List Work). line_in a.line l) all)
+        (piece_alike b.line b.offices (offices_in a.offices (all_works x.turns.1.visits)) ys (λ k. sym (x.paced.offices k ∙ ap (λ (l : List Work). office_in k (a.offices k) l) all)) has)
+
+-- hosting ends before
+pub peers_cut : {E F : Type 0} (result : Result (Option Stopped) E) (was : Result (Option Stopped) F) (a b : Standings) (xs : List Work) → IfWhole result ⊥ → ServesAll was a b xs → ServesPeers result a b xs
+peers_cut result was a b xs cut x = record {
+  paced = paced-more 2368 2402 a b xs (omega arith) x.paced;
+  turns = cut_off (((c : ℕ) → a.clients c ≡ ready → HasEnough c xs) × ComesToPiece a.line a.offices xs) result cut;
+  kept_office = x.kept_office;
+}
+
 -- the clients have their turns, and then the land office
-pub office_then : {E F : Type 0} (end : Option Stopped) (a b d : Standings) (xs ys : List Work) → ServesAll {E = E} (Ok None) a b xs → ServesOffices 32 end b d ys → ServesEach {E = F} 2400 (Ok end) a d (xs ++ ys)
+pub office_then : {E F : Type 0} (end : Option Stopped) (a b d : Standings) (xs ys : List Work) → ServesPeers {E = E} (Ok None) a b xs → ServesOffices 32 end b d ys → ServesEach {E = F} 2434 (Ok end) a d (xs ++ ys)
 office_then {E} {F} end a b d xs ys x y = record {
-  paced = paced-append 2368 32 2400 a b d xs ys (omega arith) x.paced y.passes.paced;
-  turns = whole {E = F} (Ok end) ((k : ℕ) → b.offices k ≡ ready → any_of (is_office_turn k) ys ≡ true) (EachHasTurn a (xs ++ ys) × ComesByVisits a.offices (xs ++ ys)) (λ turns. (
+  paced = paced-append 2402 32 2434 a b d xs ys (omega arith) x.paced y.passes.paced;
+  turns = whole {E = F} (Ok end) ((k : ℕ) → b.offices k ≡ ready → any_of (is_office_turn k) ys ≡ true) (EachHasTurn a (xs ++ ys) × ComesByVisits a.line a.offices (xs ++ ys)) (λ turns. (
     record {
       clients = λ c is. enough_left c xs ys (x.turns.0 c is);
       offices = λ k is. elim (x.kept_office k is) [
@@ -502,25 +637,33 @@ office_then {E} {F} end a b d xs ys x y = record {
         | inr still ↦ any_right (is_office_turn k) xs ys (turns k still)
       ];
     },
-    record { visits = x.turns.1.visits; rest = ys; all = ap (λ (l : List Work). l ++ ys) x.turns.1.all; are = x.turns.1.are; quiet = y.quiet },
+    record {
+      visits = x.turns.1.visits;
+      piece = x.turns.1.piece;
+      rest = ys;
+      all = ap (λ (l : List Work). l ++ ys) x.turns.1.all ∙ append_assoc (all_works x.turns.1.visits) x.turns.1.piece ys;
+      are = x.turns.1.are;
+      works_on = x.turns.1.works_on;
+      quiet = y.quiet;
+    },
   )) y.turns;
 }
 
 -- hosting ended before it had
-pub office_cut : {E : Type 0} (result : Result (Option Stopped) E) (a b : Standings) (xs : List Work) → IfWhole result ⊥ → ServesAll result a b xs → ServesEach 2400 result a b xs
-office_cut result a b xs cut x = record { paced = paced-more 2368 2400 a b xs (omega arith) x.paced; turns = cut_off (EachHasTurn a xs × ComesByVisits a.offices xs) result cut }
+pub office_cut : {E : Type 0} (result : Result (Option Stopped) E) (a b : Standings) (xs : List Work) → IfWhole result ⊥ → ServesPeers result a b xs → ServesEach 2434 result a b xs
+office_cut result a b xs cut x = record { paced = paced-more 2402 2434 a b xs (omega arith) x.paced; turns = cut_off (EachHasTurn a xs × ComesByVisits a.line a.offices xs) result cut }
 
 -- the network tells who may go on, and they have their turns
-pub asked_served : {E : Type 0} (result : Result (Option Stopped) E) (a b d : Standings) (xs ys : List Work) → IsAsked a b xs → ServesEach 2400 result b d ys → MakesRound 2401 result a d (xs ++ ys)
+pub asked_served : {E : Type 0} (result : Result (Option Stopped) E) (a b d : Standings) (xs ys : List Work) → IsAsked a b xs → ServesEach 2434 result b d ys → MakesRound 2435 result a d (xs ++ ys)
 asked_served result a b d xs ys asked served = record {
-  paced = paced-append 1 2400 2401 a b d xs ys (omega arith) asked.2 served.paced;
+  paced = paced-append 1 2434 2435 a b d xs ys (omega arith) asked.2 served.paced;
   gives = subst (λ (works : List Work). IfWhole result (GivesTurns a (works ++ ys))) (sym asked.1) (go result served.turns);
 }
   where
-    go : {E : Type 0} (result : Result (Option Stopped) E) → IfWhole result (EachHasTurn b ys × ComesByVisits b.offices ys) → IfWhole result (GivesTurns a (wakes asked.0 ∷ ys))
+    go : {E : Type 0} (result : Result (Option Stopped) E) → IfWhole result (EachHasTurn b ys × ComesByVisits b.line b.offices ys) → IfWhole result (GivesTurns a (wakes asked.0 ∷ ys))
     go (Ok None) turns = (
       record { clients = λ c is. turns.0.clients c (asked_stands a b xs asked c ∙ is); offices = λ k is. turns.0.offices k (asked_office a b xs asked k ∙ is) },
-      comes_alike b.offices (λ k. office_after k (a.offices k) (wakes asked.0)) ys (λ k. sym (asked_office a b xs asked k)) turns.1,
+      subst (λ (l : List ℕ). ComesByVisits l (λ k. office_after k (a.offices k) (wakes asked.0)) ys) (asked_line a b xs asked) (comes_alike b.line b.offices (λ k. office_after k (a.offices k) (wakes asked.0)) ys (λ k. sym (asked_office a b xs asked k)) turns.1),
     )
     go (Ok (Some stopped)) turns = tt
     go (Err error) turns = tt
@@ -545,7 +688,7 @@ all_works-append (first ∷ rounds) round = ap (λ (l : List Work). first ++ l) 
 
 -- all stand alike
 abbrev pub AreAlike : Standings → Standings → Type 0
-AreAlike some other = ((c : ℕ) → other.clients c ≡ some.clients c) × ((k : ℕ) → other.offices k ≡ some.offices k)
+AreAlike some other = ((c : ℕ) → other.clients c ≡ some.clients c) × ((k : ℕ) → other.offices k ≡ some.offices k) × (other.line ≡ some.line)
 
 gives_alike : (some other : Standings) (works : List Work) → AreAlike some other → GivesTurns some works → GivesTurns other works
 gives_alike some other [] alike gives = absurd gives
@@ -554,10 +697,11 @@ gives_alike some other (wakes places ∷ later) alike gives = (
     clients = λ c is. gives.0.clients c (sym (ap (λ (it : Standing). stands_after c it (wakes places)) (alike.0 c)) ∙ is);
     offices = λ k is. gives.0.offices k (sym (ap (λ (it : Standing). office_after k it (wakes places)) (alike.1 k)) ∙ is);
   },
-  comes_alike (λ k. office_after k (some.offices k) (wakes places)) (λ k. office_after k (other.offices k) (wakes places)) later (λ k. ap (λ (it : Standing). office_after k it (wakes places)) (alike.1 k)) gives.1,
+  subst (λ (l : List ℕ). ComesByVisits l (λ k. office_after k (other.offices k) (wakes places)) later) (sym alike.2)
+      (comes_alike some.line (λ k. office_after k (some.offices k) (wakes places)) (λ k. office_after k (other.offices k) (wakes places)) later (λ k. ap (λ (it : Standing). office_after k it (wakes places)) (alike.1 k)) gives.1),
 )
 gives_alike some other (opens s c ∷ later) alike gives = absurd gives
-gives_alike some other (acts s c act ∷ later) alike gives = absurd gives
+gives_alike some other (acts s c act owing ∷ later) alike gives = absurd gives
 gives_alike some other (waits s c ∷ later) alike gives = absurd gives
 gives_alike some other (ends s c cause deeds said ∷ later) alike gives = absurd gives
 gives_alike some other (office_comes o k ∷ later) alike gives = absurd gives
@@ -573,31 +717,32 @@ rounds_alike some other [] alike are = tt
 rounds_alike some other (round ∷ rounds) alike are = (
   round_alike some other round alike are.0,
   rounds_alike (all_after some round) (all_after other round) rounds
-      ((λ c. ap (λ (it : Standing). stands_in c it round) (alike.0 c)), λ k. ap (λ (it : Standing). office_in k it round) (alike.1 k)) are.1,
+      ((λ c. ap (λ (it : Standing). stands_in c it round) (alike.0 c)), (λ k. ap (λ (it : Standing). office_in k it round) (alike.1 k)), ap (λ (l : List ℕ). line_in l round) alike.2) are.1,
 )
 
 -- one more round
 rounds_more : (stands : Standings) (rounds : List (List Work)) (round : List Work) → AreRounds stands rounds → IsRound (all_after stands (all_works rounds)) round → AreRounds stands (rounds ++ round ∷ [])
-rounds_more stands [] round are is = (round_alike (all_after stands []) stands round ((λ c. refl), λ k. refl) is, tt)
+rounds_more stands [] round are is = (round_alike (all_after stands []) stands round ((λ c. refl), (λ k. refl), refl) is, tt)
 rounds_more stands (first ∷ rounds) round are is = (
   are.0,
   rounds_more (all_after stands first) rounds round are.1
       (round_alike (all_after stands (all_works (first ∷ rounds))) (all_after (all_after stands first) (all_works rounds)) round
-      ((λ c. sym (stands_in-append c (stands.clients c) first (all_works rounds))), λ k. sym (office_in-append k (stands.offices k) first (all_works rounds))) is),
+      ((λ c. sym (stands_in-append c (stands.clients c) first (all_works rounds))), (λ k. sym (office_in-append k (stands.offices k) first (all_works rounds))), sym (line_in-append stands.line first (all_works rounds))) is),
 )
 
 pub rounds-nil : (a : Standings) → MadeRounds a a []
-rounds-nil a = record { rounds = []; all = refl; served = tt; stand = λ c. refl; offices = λ k. refl }
+rounds-nil a = record { rounds = []; all = refl; served = tt; stand = λ c. refl; offices = λ k. refl; line = refl }
 
 pub rounds-then : {E : Type 0} (a b d : Standings) (xs ys : List Work) → MadeRounds a b xs → MakesRound {E = E} most_in_round (Ok None) b d ys → MadeRounds a d (xs ++ ys)
 rounds-then a b d xs ys x y = record {
   rounds = x.rounds ++ ys ∷ [];
   all = ap (λ (l : List Work). l ++ ys) x.all ∙ sym (all_works-append x.rounds ys);
   served = rounds_more a x.rounds ys x.served (round_alike b (all_after a (all_works x.rounds)) ys
-      ((λ c. sym (x.stand c ∙ ap (λ (l : List Work). stands_in c (a.clients c) l) x.all)), λ k. sym (x.offices k ∙ ap (λ (l : List Work). office_in k (a.offices k) l) x.all))
+      ((λ c. sym (x.stand c ∙ ap (λ (l : List Work). stands_in c (a.clients c) l) x.all)), (λ k. sym (x.offices k ∙ ap (λ (l : List Work). office_in k (a.offices k) l) x.all)), sym (x.line ∙ ap (λ (l : List Work). line_in a.line l) x.all))
       (record { gives = y.gives; few = y.paced.few }));
   stand = λ c. y.paced.stand c ∙ (ap (λ (it : Standing). stands_in c it ys) (x.stand c) ∙ sym (stands_in-append c (a.clients c) xs ys));
   offices = λ k. y.paced.offices k ∙ (ap (λ (it : Standing). office_in k it ys) (x.offices k) ∙ sym (office_in-append k (a.offices k) xs ys));
+  line = y.paced.line ∙ (ap (λ (it : List ℕ). line_in it ys) x.line ∙ sym (line_in-append a.line xs ys));
 }
 
 -- hosting ends within a round, or after one

@@ -116,7 +116,7 @@ gone_stream begun entry Come texts Well read written come none never unread_more
   none = λ ended. unread_more;
 }
 
-module _ {R J : Type 0} (g : Ghosts R) (jg : JournalGhosts R J) (o : ℕ) where
+module _ {R J W : Type 0} (g : Ghosts R) (jg : JournalGhosts R J) (owes : W → List ℕ) (o : ℕ) where
   -- a turn at which the connection goes on or a line ends, and what is left to say after it
   record IsStep (told : List ℕ) (turned : EntryTurned) (old mid : Desk R) (begun : List ℕ) (entry after : Entry J) (own : List Deed) : Type 1 where
     ls : List (List ℕ)
@@ -426,19 +426,19 @@ module _ {R J : Type 0} (g : Ghosts R) (jg : JournalGhosts R J) (o : ℕ) where
   -- ---- the office's turns among all that is done
 
   -- nothing is said of it where it is not here
-  record IsGone (works : List Work) (old new : Desk R) (here next : Place J) (goes : Goes g jg old here works new next) : Type 0 where
-    come : LinesCome g jg o works old new here next goes []
+  record IsGone (works : List Work) (old new : Desk R) (here next : Place J W) (goes : Goes g jg owes old here works new next) : Type 0 where
+    come : LinesCome g jg owes o works old new here next goes []
     texts : answer_texts o works ≡ []
     never : EndsWell o works → ⊥
 
   -- one thing is done while it is not here
-  apart_step : (work : Work) (later : List Deed) (old mid : Desk R) (here between : Place J) → NotHeld o here → Works g jg old here work mid between → comes o (deeds_of work ++ later) ≡ false → NotHeld o between × (comes o later ≡ false)
+  apart_step : (work : Work) (later : List Deed) (old mid : Desk R) (here between : Place J W) → NotHeld o here → Works g jg owes old here work mid between → comes o (deeds_of work ++ later) ≡ false → NotHeld o between × (comes o later ≡ false)
   apart_step work later old mid here between not works none =
       let parts = or_none (comes o (deeds_of work)) (comes o later) (sym (comes-append o (deeds_of work) later) ∙ none) in
       let first : comes o (all_deeds (work ∷ [])) ≡ false = ap (λ (l : List Deed). comes o l) (append-nil (deeds_of work)) ∙ parts.0 in
-      ((unheld g jg o (work ∷ []) old mid here between (mid, between, works, (refl, refl)) not first).1, parts.1)
+      ((unheld g jg owes o (work ∷ []) old mid here between (mid, between, works, (refl, refl)) not first).1, parts.1)
 
-  gone : (works : List Work) (old new : Desk R) (here next : Place J) (goes : Goes g jg old here works new next) → NotHeld o here → comes o (all_deeds works) ≡ false → IsGone works old new here next goes
+  gone : (works : List Work) (old new : Desk R) (here next : Place J W) (goes : Goes g jg owes old here works new next) → NotHeld o here → comes o (all_deeds works) ≡ false → IsGone works old new here next goes
   gone [] old new here next goes not none = record { come = refl; texts = refl; never = λ well. well }
   gone (wakes places ∷ later) old new here next goes not none =
       let step = apart_step (wakes places) (all_deeds later) old goes.0 here goes.1 not goes.2 none in
@@ -448,8 +448,8 @@ module _ {R J : Type 0} (g : Ghosts R) (jg : JournalGhosts R J) (o : ℕ) where
       let step = apart_step (opens s c) (all_deeds later) old goes.0 here goes.1 not goes.2 none in
       let rest = gone later goes.0 new goes.1 next goes.3 step.0 step.1 in
       record { come = rest.come; texts = rest.texts; never = rest.never }
-  gone (acts s c act ∷ later) old new here next goes not none =
-      let step = apart_step (acts s c act) (all_deeds later) old goes.0 here goes.1 not goes.2 none in
+  gone (acts s c act owing ∷ later) old new here next goes not none =
+      let step = apart_step (acts s c act owing) (all_deeds later) old goes.0 here goes.1 not goes.2 none in
       let rest = gone later goes.0 new goes.1 next goes.3 step.0 step.1 in
       record { come = rest.come; texts = rest.texts; never = rest.never }
   gone (waits s c ∷ later) old new here next goes not none =
@@ -485,16 +485,16 @@ module _ {R J : Type 0} (g : Ghosts R) (jg : JournalGhosts R J) (o : ℕ) where
         ];
       }
 
-  abbrev Streams : (begun : List ℕ) (entry : Entry J) (works : List Work) (old new : Desk R) (here next : Place J) → Goes g jg old here works new next → Type 0
+  abbrev Streams : (begun : List ℕ) (entry : Entry J) (works : List Work) (old new : Desk R) (here next : Place J W) → Goes g jg owes old here works new next → Type 0
   Streams begun entry works old new here next goes =
-      IsStream begun entry (LinesCome g jg o works old new here next goes) (answer_texts o works) (EndsWell o works) (given_by o (all_deeds works)) (taken_by o (all_deeds works))
+      IsStream begun entry (LinesCome g jg owes o works old new here next goes) (answer_texts o works) (EndsWell o works) (given_by o (all_deeds works)) (taken_by o (all_deeds works))
 
   -- the office left, and its socket comes no more
-  gone_streams : (begun : List ℕ) (entry : Entry J) (works : List Work) (old new : Desk R) (here next : Place J) (goes : Goes g jg old here works new next) → NotHeld o here → comes o (all_deeds works) ≡ false → Streams begun entry works old new here next goes
+  gone_streams : (begun : List ℕ) (entry : Entry J) (works : List Work) (old new : Desk R) (here next : Place J W) (goes : Goes g jg owes old here works new next) → NotHeld o here → comes o (all_deeds works) ≡ false → Streams begun entry works old new here next goes
   gone_streams begun entry works old new here next goes not none =
       let is = gone works old new here next goes not none in
-      let quiet = (unheld g jg o works old new here next goes not none).0 in
-      gone_stream begun entry (LinesCome g jg o works old new here next goes) (answer_texts o works) (EndsWell o works) (given_by o (all_deeds works)) (taken_by o (all_deeds works)) is.come is.texts is.never quiet.0 quiet.1
+      let quiet = (unheld g jg owes o works old new here next goes not none).0 in
+      gone_stream begun entry (LinesCome g jg owes o works old new here next goes) (answer_texts o works) (EndsWell o works) (given_by o (all_deeds works)) (taken_by o (all_deeds works)) is.come is.texts is.never quiet.0 quiet.1
 
   given_more : (deeds rest : List Deed) → IsQuiet o deeds → given_by o (deeds ++ rest) ≡ given_by o rest
   given_more deeds rest quiet = given_by-append o deeds rest ∙ rw quiet.0 refl
@@ -503,16 +503,16 @@ module _ {R J : Type 0} (g : Ghosts R) (jg : JournalGhosts R J) (o : ℕ) where
   taken_more deeds rest quiet = taken_by-append o deeds rest ∙ rw quiet.1 refl
 
   -- what is done at other sockets says nothing of it
-  beside : (begun : List ℕ) (entry : Entry J) (deeds : List Deed) (later : List Work) (old new : Desk R) (here next : Place J) (goes : Goes g jg old here later new next) → IsQuiet o deeds → Streams begun entry later old new here next goes
-      → IsStream begun entry (LinesCome g jg o later old new here next goes) (answer_texts o later) (EndsWell o later) (given_by o (deeds ++ all_deeds later)) (taken_by o (deeds ++ all_deeds later))
+  beside : (begun : List ℕ) (entry : Entry J) (deeds : List Deed) (later : List Work) (old new : Desk R) (here next : Place J W) (goes : Goes g jg owes old here later new next) → IsQuiet o deeds → Streams begun entry later old new here next goes
+      → IsStream begun entry (LinesCome g jg owes o later old new here next goes) (answer_texts o later) (EndsWell o later) (given_by o (deeds ++ all_deeds later)) (taken_by o (deeds ++ all_deeds later))
   beside begun entry deeds later old new here next goes quiet s =
-      same_bytes begun entry (LinesCome g jg o later old new here next goes) (answer_texts o later) (EndsWell o later) (given_by o (all_deeds later)) (taken_by o (all_deeds later)) (given_by o (deeds ++ all_deeds later)) (taken_by o (deeds ++ all_deeds later))
+      same_bytes begun entry (LinesCome g jg owes o later old new here next goes) (answer_texts o later) (EndsWell o later) (given_by o (all_deeds later)) (taken_by o (all_deeds later)) (given_by o (deeds ++ all_deeds later)) (taken_by o (deeds ++ all_deeds later))
       (given_more deeds (all_deeds later) quiet) (taken_more deeds (all_deeds later) quiet) s
 
   -- a turn of another connection of the land office
-  beside_turn : (p j : ℕ) (text : List ℕ) (turned : EntryTurned) (deeds : List Deed) (said : Said) (was mid : Desk R) (begun : List ℕ) (entry : Entry J) (later : List Work) (new : Desk R) (here next : Place J) (goes : Goes g jg mid here later new next)
+  beside_turn : (p j : ℕ) (text : List ℕ) (turned : EntryTurned) (deeds : List Deed) (said : Said) (was mid : Desk R) (begun : List ℕ) (entry : Entry J) (later : List Work) (new : Desk R) (here next : Place J W) (goes : Goes g jg owes mid here later new next)
       → nat_eq p o ≡ false → IsQuiet o deeds → Streams begun entry later mid new here next goes
-      → IsStream begun entry (TakesLine g jg (nat_eq p o && ends_line turned) was turned mid (LinesCome g jg o later mid new here next goes)) (if nat_eq p o then answer_text text turned ++ answer_texts o later else answer_texts o later)
+      → IsStream begun entry (TakesLine g jg (nat_eq p o && ends_line turned) was turned mid (LinesCome g jg owes o later mid new here next goes)) (if nat_eq p o then answer_text text turned ++ answer_texts o later else answer_texts o later)
       (((p ≡ o) × IsLeftWell o turned deeds) ⊎ EndsWell o later) (given_by o (deeds ++ all_deeds later)) (taken_by o (deeds ++ all_deeds later))
   beside_turn p j text turned deeds said was mid begun entry later new here next goes other quiet s =
       let t = beside begun entry deeds later mid new here next goes quiet s in
@@ -654,7 +654,7 @@ module _ {R J : Type 0} (g : Ghosts R) (jg : JournalGhosts R J) (o : ℕ) where
   at_other : (k i : ℕ) (one : AtOffice J) (old new : AtOffices J) (entry : Entry J) → nat_eq i k ≡ false → Puts old new i one → old k ≡ Some (o, entry) → new k ≡ Some (o, entry)
   at_other k i one old new entry other puts at = puts k ∙ rw other at
 
-  streams : (k : ℕ) (works : List Work) (old new : Desk R) (here next : Place J) (goes : Goes g jg old here works new next) (begun : List ℕ) (entry : Entry J) → here.offices k ≡ Some (o, entry) → NotBeside k here.offices → NotIn o here.slots → comes o (all_deeds works) ≡ false → IsReady begun entry
+  streams : (k : ℕ) (works : List Work) (old new : Desk R) (here next : Place J W) (goes : Goes g jg owes old here works new next) (begun : List ℕ) (entry : Entry J) → here.offices k ≡ Some (o, entry) → NotBeside k here.offices → NotIn o here.slots → comes o (all_deeds works) ≡ false → IsReady begun entry
       → Streams begun entry works old new here next goes
   streams k [] old new here next goes begun entry at alone not none ready = record {
     lines = [];
@@ -669,57 +669,57 @@ module _ {R J : Type 0} (g : Ghosts R) (jg : JournalGhosts R J) (o : ℕ) where
   streams k (wakes places ∷ later) old new here next goes begun entry at alone not none ready =
       let parts = or_none (comes o (map woke places)) (comes o (all_deeds later)) (sym (comes-append o (map woke places) (all_deeds later)) ∙ none) in
       beside begun entry (map woke places) later goes.0 new goes.1 next goes.3 (woken_quiet o places)
-      (streams k later goes.0 new goes.1 next goes.3 begun entry (goes.2.2 k ∙ at) (kept_beside k here.offices goes.1.offices goes.2.2 alone) (kept_slots g jg o here.slots goes.1.slots goes.2.1 not) parts.1 ready)
+      (streams k later goes.0 new goes.1 next goes.3 begun entry (goes.2.2 k ∙ at) (kept_beside k here.offices goes.1.offices goes.2.2 alone) (kept_slots g jg owes o here.slots goes.1.slots goes.2.1 not) parts.1 ready)
   streams k (opens s c ∷ later) old new here next goes begun entry at alone not none ready =
       let parts = or_none (nat_eq s o) (comes o (all_deeds later)) none in
       streams k later goes.0 new goes.1 next goes.3 begun entry (goes.2.5 k ∙ at) (kept_beside k here.offices goes.1.offices goes.2.5 alone) (puts_other o c s goes.2.0 here.slots goes.1.slots parts.0 goes.2.4 not) parts.1 ready
-  streams k (acts s c act ∷ later) old new here next goes begun entry at alone not none ready =
+  streams k (acts s c act owing ∷ later) old new here next goes begun entry at alone not none ready =
       let other = differs s o (λ same. not c goes.2.0 (goes.2.2 ∙ ap (λ (n : ℕ). Some (n, goes.2.0)) same)) in
       let parts = or_none (comes o (deeds_in s act)) (comes o (all_deeds later)) (sym (comes-append o (deeds_in s act) (all_deeds later)) ∙ none) in
       beside begun entry (deeds_in s act) later goes.0 new goes.1 next goes.3 (act_quiet o s act other)
       (streams k later goes.0 new goes.1 next goes.3 begun entry (goes.2.5 k ∙ at) (kept_beside k here.offices goes.1.offices goes.2.5 alone) (puts_other o c s goes.2.1 here.slots goes.1.slots other goes.2.4 not) parts.1 ready)
   streams k (waits s c ∷ later) old new here next goes begun entry at alone not none ready =
-      streams k later goes.0 new goes.1 next goes.3 begun entry (goes.2.5 k ∙ at) (kept_beside k here.offices goes.1.offices goes.2.5 alone) (kept_slots g jg o here.slots goes.1.slots goes.2.4 not) none ready
+      streams k later goes.0 new goes.1 next goes.3 begun entry (goes.2.5 k ∙ at) (kept_beside k here.offices goes.1.offices goes.2.5 alone) (kept_slots g jg owes o here.slots goes.1.slots goes.2.4 not) none ready
   streams k (ends s c cause deeds said ∷ later) old new here next goes begun entry at alone not none ready =
       let other = differs s o (λ same. not c goes.2.0 (goes.2.1 ∙ ap (λ (n : ℕ). Some (n, goes.2.0)) same)) in
       let parts = or_none (comes o deeds) (comes o (all_deeds later)) (sym (comes-append o deeds (all_deeds later)) ∙ none) in
-      beside begun entry deeds later goes.0 new goes.1 next goes.3 (leaves_quiet g jg o c s old goes.0 goes.2.0 cause deeds other goes.2.2)
+      beside begun entry deeds later goes.0 new goes.1 next goes.3 (leaves_quiet g jg owes o c s old goes.0 goes.2.0 cause deeds other goes.2.2)
       (streams k later goes.0 new goes.1 next goes.3 begun entry (goes.2.6 k ∙ at) (kept_beside k here.offices goes.1.offices goes.2.6 alone) (puts_none o c here.slots goes.1.slots goes.2.5 not) parts.1 ready)
   streams k (office_comes p j ∷ later) old new here next goes begun entry at alone not none ready =
       let parts = or_none (nat_eq p o) (comes o (all_deeds later)) none in
       let other : nat_eq j k ≡ false = differs j k (λ same. none_some {X = ℕ × Entry J} (o, entry) (sym goes.2.1 ∙ (ap here.offices same ∙ at))) in
       let beside_it = put_beside k j p (Some (p, goes.2.0)) here.offices goes.1.offices (λ it is. apart p o parts.0 (ap (λ (both : ℕ × Entry J). both.0) (one_some {X = ℕ × Entry J} (p, goes.2.0) (o, it) is))) goes.2.3 alone in
-      streams k later goes.0 new goes.1 next goes.3 begun entry (at_other k j (Some (p, goes.2.0)) here.offices goes.1.offices entry other goes.2.3 at) beside_it (kept_slots g jg o here.slots goes.1.slots goes.2.4 not) parts.1 ready
+      streams k later goes.0 new goes.1 next goes.3 begun entry (at_other k j (Some (p, goes.2.0)) here.offices goes.1.offices entry other goes.2.3 at) beside_it (kept_slots g jg owes o here.slots goes.1.slots goes.2.4 not) parts.1 ready
   streams k (office_leaves p j overdue ∷ later) old new here next goes begun entry at alone not none ready =
-      go (λ there beside_it. streams k later goes.0 new goes.1 next goes.3 begun entry there beside_it (kept_slots g jg o here.slots goes.1.slots goes.2.3 not) none ready) (nat_eq j k) refl
+      go (λ there beside_it. streams k later goes.0 new goes.1 next goes.3 begun entry there beside_it (kept_slots g jg owes o here.slots goes.1.slots goes.2.3 not) none ready) (nat_eq j k) refl
     where
       go : (goes.1.offices k ≡ Some (o, entry) → NotBeside k goes.1.offices → Streams begun entry later goes.0 new goes.1 next goes.3) → (same : Bool) → nat_eq j k ≡ same → Streams begun entry (office_leaves p j overdue ∷ later) old new here next goes
       go more true e =
           let puts = subst (λ (n : ℕ). Puts here.offices goes.1.offices n None) (eqb-true j k e) goes.2.2 in
-          gone_streams begun entry later goes.0 new goes.1 next goes.3 (kept_slots g jg o here.slots goes.1.slots goes.2.3 not, gone_beside k here.offices goes.1.offices puts alone) none
+          gone_streams begun entry later goes.0 new goes.1 next goes.3 (kept_slots g jg owes o here.slots goes.1.slots goes.2.3 not, gone_beside k here.offices goes.1.offices puts alone) none
       go more false e = more (at_other k j None here.offices goes.1.offices entry e goes.2.2 at) (put_beside k j p None here.offices goes.1.offices (λ it is. none_some {X = ℕ × Entry J} (o, it) is) goes.2.2 alone)
   streams k (aside deeds said ∷ later) old new here next goes begun entry at alone not none ready =
       let parts = or_none (comes o deeds) (comes o (all_deeds later)) (sym (comes-append o deeds (all_deeds later)) ∙ none) in
       beside begun entry deeds later goes.0 new goes.1 next goes.3 (aside_passes deeds goes.2.3 o parts.0)
-      (streams k later goes.0 new goes.1 next goes.3 begun entry (goes.2.4 k ∙ at) (kept_beside k here.offices goes.1.offices goes.2.4 alone) (kept_slots g jg o here.slots goes.1.slots goes.2.2 not) parts.1 ready)
+      (streams k later goes.0 new goes.1 next goes.3 begun entry (goes.2.4 k ∙ at) (kept_beside k here.offices goes.1.offices goes.2.4 alone) (kept_slots g jg owes o here.slots goes.1.slots goes.2.2 not) parts.1 ready)
   streams k (enters p j text turned deeds said ∷ later) old new here next goes begun entry at alone not none ready =
       let parts = or_none (comes o deeds) (comes o (all_deeds later)) (sym (comes-append o deeds (all_deeds later)) ∙ none) in
-      let slots = kept_slots g jg o here.slots goes.1.slots goes.2.9 not in
+      let slots = kept_slots g jg owes o here.slots goes.1.slots goes.2.9 not in
       by_number (λ it next_begun at_next alone_next is. streams k later goes.0 new goes.1 next goes.3 next_begun it at_next alone_next slots parts.1 is) slots parts.1 (nat_eq j k) refl
     where
       by_last : (last : Bool) → is_last turned ≡ last → deeds ≡ goes.2.2 ++ (if last then left o ∷ [] else []) → Puts here.offices goes.1.offices k (if◌then◌else◌ {A = AtOffice J} last None (Some (o, goes.2.1)))
           → ((it : List ℕ) → goes.1.offices k ≡ Some (o, goes.2.1) → IsReady it goes.2.1 → Streams it goes.2.1 later goes.0 new goes.1 next goes.3)
           → NotIn o goes.1.slots → comes o (all_deeds later) ≡ false → IsEntryTurn g jg o old entry turned goes.0 goes.2.1 goes.2.2
-          → IsStream begun entry (TakesLine g jg (ends_line turned) old turned goes.0 (LinesCome g jg o later goes.0 new goes.1 next goes.3)) (answer_text text turned ++ answer_texts o later) (IsLeftWell o turned deeds ⊎ EndsWell o later)
+          → IsStream begun entry (TakesLine g jg (ends_line turned) old turned goes.0 (LinesCome g jg owes o later goes.0 new goes.1 next goes.3)) (answer_text text turned ++ answer_texts o later) (IsLeftWell o turned deeds ⊎ EndsWell o later)
           (given_by o goes.2.2 ++ given_by o (all_deeds later)) (taken_by o goes.2.2 ++ taken_by o (all_deeds later))
       by_last true is are puts more slots none_later turn =
           let gone_now : NotHeld o goes.1 = (slots, gone_beside k here.offices goes.1.offices puts alone) in
           let rest = gone later goes.0 new goes.1 next goes.3 gone_now none_later in
-          let quiet = (unheld g jg o later goes.0 new goes.1 next goes.3 gone_now none_later).0 in
-          turn_ends text begun entry goes.2.1 turned old goes.0 goes.2.2 (LinesCome g jg o later goes.0 new goes.1 next goes.3) (answer_texts o later) (EndsWell o later) (given_by o (all_deeds later)) (taken_by o (all_deeds later)) ready turn goes.2.10 deeds are
+          let quiet = (unheld g jg owes o later goes.0 new goes.1 next goes.3 gone_now none_later).0 in
+          turn_ends text begun entry goes.2.1 turned old goes.0 goes.2.2 (LinesCome g jg owes o later goes.0 new goes.1 next goes.3) (answer_texts o later) (EndsWell o later) (given_by o (all_deeds later)) (taken_by o (all_deeds later)) ready turn goes.2.10 deeds are
           rest.come rest.texts rest.never quiet.0 quiet.1
       by_last false is are puts more slots none_later turn =
-          turn_goes text begun entry goes.2.1 turned old goes.0 goes.2.2 (LinesCome g jg o later goes.0 new goes.1 next goes.3) (answer_texts o later) (EndsWell o later) (given_by o (all_deeds later)) (taken_by o (all_deeds later)) ready turn goes.2.10 deeds
+          turn_goes text begun entry goes.2.1 turned old goes.0 goes.2.2 (LinesCome g jg owes o later goes.0 new goes.1 next goes.3) (answer_texts o later) (EndsWell o later) (given_by o (all_deeds later)) (taken_by o (all_deeds later)) ready turn goes.2.10 deeds
           (λ over. (let clash : true ≡ false = sym (ap is_last over) ∙ is in cc)) (λ it stands. more it (puts k ∙ rw (eq-eqb k k refl) refl) stands)
 
       by_number : ((it : Entry J) (begun : List ℕ) → goes.1.offices k ≡ Some (o, it) → NotBeside k goes.1.offices → IsReady begun it → Streams begun it later goes.0 new goes.1 next goes.3) → NotIn o goes.1.slots → comes o (all_deeds later) ≡ false
@@ -734,7 +734,7 @@ module _ {R J : Type 0} (g : Ghosts R) (jg : JournalGhosts R J) (o : ℕ) where
           let puts = subst (λ (i : ℕ). Puts here.offices goes.1.offices i (if◌then◌else◌ {A = AtOffice J} (is_last turned) None (Some (o, w.1)))) number
           (subst (λ (n : ℕ). Puts here.offices goes.1.offices j (if◌then◌else◌ {A = AtOffice J} (is_last turned) None (Some (n, w.1)))) same.0 w.8) in
           let bytes = last_passes w.2 (is_last turned) in
-          entered text p begun entry turned old goes.0 deeds w.2 (LinesCome g jg o later goes.0 new goes.1 next goes.3) (answer_texts o later) (EndsWell o later) (all_deeds later) []
+          entered text p begun entry turned old goes.0 deeds w.2 (LinesCome g jg owes o later goes.0 new goes.1 next goes.3) (answer_texts o later) (EndsWell o later) (all_deeds later) []
           (eq-eqb p o same.0) (ap (λ (l : List Deed). given_by o l) are ∙ bytes.0, ap (λ (l : List Deed). taken_by o l) are ∙ bytes.1)
           (by_last (is_last turned) refl are puts (λ it at_next is. more w.1 it at_next (put_own k (if◌then◌else◌ {A = AtOffice J} (is_last turned) None (Some (o, w.1))) here.offices goes.1.offices puts alone) is) slots none_later turn)
       by_number more slots none_later false e =
@@ -743,25 +743,25 @@ module _ {R J : Type 0} (g : Ghosts R) (jg : JournalGhosts R J) (o : ℕ) where
           let one : AtOffice J = if◌then◌else◌ {A = AtOffice J} (is_last turned) None (Some (p, w.1)) in
           let none_of_it : ((it : Entry J) → one ≡ Some (o, it) → ⊥) = (λ it is. not_here (is_last turned) it other is) in
           let rest = more entry begun (at_other k j one here.offices goes.1.offices entry e w.8 at) (put_beside k j p one here.offices goes.1.offices none_of_it w.8 alone) ready in
-          let quiet = enters_apart g jg o p old goes.0 w.0 w.1 turned deeds w.2 other w.5 w.4 in
+          let quiet = enters_apart g jg owes o p old goes.0 w.0 w.1 turned deeds w.2 other w.5 w.4 in
           beside_turn p j text turned deeds said old goes.0 begun entry later new goes.1 next goes.3 other quiet rest
         where
           not_here : (last : Bool) (it : Entry J) → nat_eq p o ≡ false → ◌≡◌ {A = AtOffice J} (if◌then◌else◌ {A = AtOffice J} last None (Some (p, goes.2.1))) (Some (o, it)) → ⊥
           not_here true it other is = none_some {X = ℕ × Entry J} (o, it) is
           not_here false it other is = apart p o other (ap (λ (both : ℕ × Entry J). both.0) (one_some {X = ℕ × Entry J} (p, goes.2.1) (o, it) is))
 
-pub office_is_answered : {R J : Type 0} (g : Ghosts R) (jg : JournalGhosts R J) → OfficeIsAnswered g jg
-office_is_answered {R} {J} g jg o k before later old mid new first here next empty goes_before goes none_before none_later =
-    let nobody : NotHeld o first = ((λ d channel at. none_some {X = ℕ × Channel} (o, channel) (sym (empty.0 d) ∙ at)), (λ j entry at. none_some {X = ℕ × Entry J} (o, entry) (sym (empty.1 j) ∙ at))) in
-    let quiet = unheld g jg o before old mid first here goes_before nobody none_before in
+pub office_is_answered : {R J W : Type 0} (g : Ghosts R) (jg : JournalGhosts R J) (owes : W → List ℕ) → OfficeIsAnswered g jg owes
+office_is_answered {R} {J} {W} g jg owes o k before later old mid new first here next empty goes_before goes none_before none_later =
+    let nobody : NotHeld o first = ((λ d channel at. none_some {X = ℕ × Channel W} (o, channel) (sym (empty.0 d) ∙ at)), (λ j entry at. none_some {X = ℕ × Entry J} (o, entry) (sym (empty.1 j) ∙ at))) in
+    let quiet = unheld g jg owes o before old mid first here goes_before nobody none_before in
     let w = goes.2 in
     let new_entry = w.2 in
     let ready : IsReady [] w.0 = record { has = new_entry.none_begun; one = refl; ended = λ ended. (new_entry.none_read, refl) } in
-    let alone = put_own g jg o k (Some (o, w.0)) here.offices goes.1.offices w.3 (λ j it other at. quiet.1.1 j it at) in
-    let s = streams g jg o k later goes.0 new goes.1 next goes.3 [] w.0 (w.3 k ∙ rw (eq-eqb k k refl) refl) alone (kept_slots g jg o here.slots goes.1.slots w.4 quiet.1.0) none_later ready in
+    let alone = put_own g jg owes o k (Some (o, w.0)) here.offices goes.1.offices w.3 (λ j it other at. quiet.1.1 j it at) in
+    let s = streams g jg owes o k later goes.0 new goes.1 next goes.3 [] w.0 (w.3 k ∙ rw (eq-eqb k k refl) refl) alone (kept_slots g jg owes o here.slots goes.1.slots w.4 quiet.1.0) none_later ready in
     let all = all_deeds-append before (office_comes o k ∷ later) in
-    let read = ap (λ (l : List Deed). given_by o l) all ∙ given_more g jg o (all_deeds before) (office_came o ∷ all_deeds later) quiet.0 in
-    let written = ap (λ (l : List Deed). taken_by o l) all ∙ taken_more g jg o (all_deeds before) (office_came o ∷ all_deeds later) quiet.0 in
+    let read = ap (λ (l : List Deed). given_by o l) all ∙ given_more g jg owes o (all_deeds before) (office_came o ∷ all_deeds later) quiet.0 in
+    let written = ap (λ (l : List Deed). taken_by o l) all ∙ taken_more g jg owes o (all_deeds before) (office_came o ∷ all_deeds later) quiet.0 in
     record {
       lines = s.lines;
       more = s.more;

@@ -38,6 +38,11 @@ end_of_rounds (Err error) = None
 abbrev pub IsLastOf : {E : Type 0} → Result Stopped E → Result Stopped E → Type 0
 IsLastOf hosted result = (result ≡ hosted) ⊎ ((hosted ≡ Ok Asked) × IsErr result)
 
+-- and it is such a failure if closing failed after the office asked
+abbrev pub TellsFailure : {E : Type 0} → Result Stopped E → Result (Unit {0}) E → Result Stopped E → Type 0
+TellsFailure (Ok Asked) ended result = IsErr ended → IsErr result
+TellsFailure hosted ended result = ⊤
+
 -- a head that says that there is no room is sent to socket s, and it is let go
 abbrev pub IsTurnedAway : ℕ → List Deed → Type 0
 IsTurnedAway s deeds = (told : List Deed) × SendsFault s Memory told × (deeds ≡ told ++ left s ∷ [])
@@ -72,7 +77,7 @@ IsLastTurn other = ⊥
 abbrev pub IsClosing : Work → Type 0
 IsClosing (wakes places) = ⊤
 IsClosing (opens s c) = ⊥
-IsClosing (acts s c act) = IsLastAct act
+IsClosing (acts s c act owing) = IsLastAct act
 IsClosing (waits s c) = ⊤
 IsClosing (ends s c cause deeds said) = IsLastEnding cause
 IsClosing (office_comes o k) = ⊥
@@ -80,24 +85,24 @@ IsClosing (enters o k text turned deeds said) = IsLastTurn turned
 IsClosing (office_leaves o k overdue) = overdue ≡ false
 IsClosing (aside deeds said) = deeds ≡ []
 
-module _ {R J : Type 0} (g : Ghosts R) (jg : JournalGhosts R J) where
+module _ {R J W : Type 0} (g : Ghosts R) (jg : JournalGhosts R J) (owes : W → List ℕ) where
   -- such works are done and nothing else; why hosting ends by them, if it does
-  abbrev pub Hosts : (Work → Type 0) → Option Stopped → Option (List Deed) → Desk R → Place J → Option (List Deed) → Desk R → Place J → Type 0
+  abbrev pub Hosts : (Work → Type 0) → Option Stopped → Option (List Deed) → Desk R → Place J W → Option (List Deed) → Desk R → Place J W → Type 0
   Hosts May end from old here to new next =
-      (works : List Work) × Adds from to (all_deeds works) × (end_in works ≡ end) × Goes g jg old here works new next × Each May works
+      (works : List Work) × Adds from to (all_deeds works) × (end_in works ≡ end) × Goes g jg owes old here works new next × Each May works
 
   -- the same while clients and the land office are served, if this holds of the works: the work by which hosting ends is the last
-  abbrev pub Serves : (List Work → Type 0) → Option Stopped → Option (List Deed) → Desk R → Place J → Option (List Deed) → Desk R → Place J → Type 0
+  abbrev pub Serves : (List Work → Type 0) → Option Stopped → Option (List Deed) → Desk R → Place J W → Option (List Deed) → Desk R → Place J W → Type 0
   Serves Holds end from old here to new next =
-      (works : List Work) × Adds from to (all_deeds works) × EndsBy end works × Goes g jg old here works new next × Each IsServing works × Holds works
+      (works : List Work) × Adds from to (all_deeds works) × EndsBy end works × Goes g jg owes old here works new next × Each IsServing works × Holds works
 
   -- Beginning with nobody, these works are done up to the one by which hosting ends, and everybody is served by them.
   -- Then others follow at once, until nobody is here. Their deeds are all that is done at the network.
   pub record HostsBy (end : Option Stopped) (from : Option (List Deed)) (old : Desk R) (to : Option (List Deed)) (new : Desk R) : Type 0 where
     pub works : List Work
     pub closing : List Work
-    pub first : Place J
-    pub last : Place J
+    pub first : Place J W
+    pub last : Place J W
     pub deeds : Adds from to (all_deeds (works ++ closing))
     pub ends : EndsBy end works
     pub serving : Each IsServing works
@@ -105,7 +110,7 @@ module _ {R J : Type 0} (g : Ghosts R) (jg : JournalGhosts R J) where
     pub closed : Each IsClosing closing
     pub nobody_first : IsEmpty first
     pub nobody_last : IsEmpty last
-    pub goes : Goes g jg old first (works ++ closing) new last
+    pub goes : Goes g jg owes old first (works ++ closing) new last
 
   -- It ended as the office asked to stop, or as the register's database refused, by what came first.
   -- Or the rounds were spent, or the system refused, and the database did not refuse.

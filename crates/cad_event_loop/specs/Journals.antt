@@ -12,7 +12,7 @@ use Rattle.cad_office.specs.declared.print.Answer.TheVariants.{Refused}
 use Rattle.cad_office.specs.Answers.{printed}
 use Rattle.cad_office.specs.JournalLines.{lines_of, end_line}
 use Rattle.cad_office_socket.specs.declared.turned.EntryTurned.{EntryTurned}
-use Rattle.cad_office_socket.specs.declared.turned.EntryTurned.TheVariants.{Wrote, Took, Added, Answered, Lost, Checked, CheckLost, StatusAnswered, StatusLost, JournalBegun, RowsRead, RowsRefused, RowsLost, Piece, PieceLost, Stops, Waits, Over}
+use Rattle.cad_office_socket.specs.declared.turned.EntryTurned.TheVariants.{Wrote, JournalBegun, RowsRead, RowsRefused, RowsLost, Piece, PieceLost, Waits, Over}
 use Rattle.cad_event_loop.specs.Works.{Place, Said, Work, enters, office_leaves, IsEmpty, Goes, MayGoOn}
 use Rattle.cad_event_loop.specs.Laws.{commands_in}
 
@@ -73,10 +73,11 @@ module _ {R J : Type 0} (g : Ghosts R) (jg : JournalGhosts R J) where
       ((behind ≤ length commands) × IsBeginningOf (journal_text commands behind) told takes)
       ⊎ ((fault : RegisterFault) × IsRefusal commands behind fault × IsBeginningOf (printed (Refused fault)) told takes)
 
+module _ {R J W : Type 0} (g : Ghosts R) (jg : JournalGhosts R J) (owes : W → List ℕ) where
   -- for each line that asks for a journal, with the commands in force when it ended, and for all else that may be done
   abbrev pub JournalsAreWritten : Type 0
-  JournalsAreWritten = (o k behind : ℕ) (text : List ℕ) (deeds : List Deed) (said : Said) (commands : List Command) (before later : List Work) (old new : Desk R) (first next : Place J)
-      → IsEmpty first → (goes : Goes g jg old first (before ++ enters o k text (JournalBegun behind) deeds said ∷ later) new next)
-      → MayGoOn g jg (before ++ enters o k text (JournalBegun behind) deeds said ∷ later) old new first next goes
+  JournalsAreWritten = (o k behind : ℕ) (text : List ℕ) (deeds : List Deed) (said : Said) (commands : List Command) (before later : List Work) (old new : Desk R) (first next : Place J W)
+      → IsEmpty first → (goes : Goes g jg owes old first (before ++ enters o k text (JournalBegun behind) deeds said ∷ later) new next)
+      → MayGoOn g jg owes (before ++ enters o k text (JournalBegun behind) deeds said ∷ later) old new first next goes
       → g.counts (responder_of new) → g.stands_for (responder_of old) commands
-      → IsJournalWritten (commands_in commands before) behind (journal_text_in k later) (takes_in k later)
+      → IsJournalWritten g jg (commands_in commands before) behind (journal_text_in k later) (takes_in k later)

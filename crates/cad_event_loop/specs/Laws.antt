@@ -30,7 +30,7 @@ abbrev pub commands_in : List Command → List Work → List Command
 commands_in commands [] = commands
 commands_in commands (wakes places ∷ later) = commands_in commands later
 commands_in commands (opens s c ∷ later) = commands_in commands later
-commands_in commands (acts s c act ∷ later) = commands_in commands later
+commands_in commands (acts s c act owing ∷ later) = commands_in commands later
 commands_in commands (waits s c ∷ later) = commands_in commands later
 commands_in commands (ends s c cause deeds said ∷ later) = commands_in commands later
 commands_in commands (office_comes o k ∷ later) = commands_in commands later
@@ -58,32 +58,32 @@ AreEntered [] count entered = entered ≡ []
 AreEntered (enters o k text turned deeds said ∷ later) count entered = AreFirstBy (AreEntered later) count text turned entered
 AreEntered (other ∷ later) count entered = AreEntered later count entered
 
-module _ {R J : Type 0} (g : Ghosts R) (jg : JournalGhosts R J) where
+module _ {R J W : Type 0} (g : Ghosts R) (jg : JournalGhosts R J) (owes : W → List ℕ) where
   -- at the end, the ledger holds the commands from before and those that the land office got revisions for as answers, and no others
   abbrev pub LedgerStands : Type 0
-  LedgerStands = (commands : List Command) (works : List Work) (old new : Desk R) (here next : Place J) → (goes : Goes g jg old here works new next) → MayGoOn g jg works old new here next goes
+  LedgerStands = (commands : List Command) (works : List Work) (old new : Desk R) (here next : Place J W) → (goes : Goes g jg owes old here works new next) → MayGoOn g jg owes works old new here next goes
       → g.counts (responder_of new) → g.stands_for (responder_of old) commands
       → (entered : List Command) × AreEntered works (length commands) entered × (commands_in commands works ≡ commands ++ entered) × g.stands_for (responder_of new) (commands ++ entered)
 
   -- for a socket that came once, and became connection c: what was read from it, and what was written to it
-  pub record IsServedSocket (s c : ℕ) (commands : List Command) (all : List Deed) (next : Place J) : Type 0 where
+  pub record IsServedSocket (s c : ℕ) (commands : List Command) (all : List Deed) (next : Place J W) : Type 0 where
     pub happenings : List Happening
     pub mid : Desk R
-    pub last : Channel
+    pub last : Channel W
     pub ended : Option (Option Ending × List Deed)
     -- except for the deeds of its end, it was read and written only in the acts of connection c
     pub read : given_by s all ≡ read_of happenings ++ given_by s (last_deeds ended)
     pub written : taken_by s all ≡ written_of happenings ++ taken_by s (last_deeds ended)
     -- it continues, or it ended with this cause
-    pub left : IsLeft g jg c s mid last ended next.slots
+    pub left : IsLeft g jg owes c s mid last ended next.slots
     -- what was read went to the desk under its own number, and what was written are the replies to that
-    pub passed : IsPassedOn (exchanges_with c commands happenings) (read_of happenings) (written_of happenings) last
-    pub answered : IsAnswered g (exchanges_with c commands happenings) (written_of happenings) last
+    pub passed : IsPassedOn owes (exchanges_with c commands happenings) (read_of happenings) (written_of happenings) last
+    pub answered : IsAnswered g owes (exchanges_with c commands happenings) (written_of happenings) last
 
   -- for all else that may be done
   abbrev pub SocketsAreTheirOwn : Type 0
-  SocketsAreTheirOwn = (s c : ℕ) (commands : List Command) (before later : List Work) (old new : Desk R) (first next : Place J)
-      → IsEmpty first → (goes : Goes g jg old first (before ++ opens s c ∷ later) new next) → MayGoOn g jg (before ++ opens s c ∷ later) old new first next goes
+  SocketsAreTheirOwn = (s c : ℕ) (commands : List Command) (before later : List Work) (old new : Desk R) (first next : Place J W)
+      → IsEmpty first → (goes : Goes g jg owes old first (before ++ opens s c ∷ later) new next) → MayGoOn g jg owes (before ++ opens s c ∷ later) old new first next goes
       → comes s (all_deeds before) ≡ false → comes s (all_deeds later) ≡ false
       → g.counts (responder_of new) → g.stands_for (responder_of old) commands
       → IsServedSocket s c (commands_in commands before) (all_deeds (before ++ opens s c ∷ later)) next

@@ -74,15 +74,16 @@ module _ {R J : Type 0} (g : Ghosts R) (jg : JournalGhosts R J) where
   TakesLine true old turned mid AreLater [] = ⊥
   TakesLine true old turned mid AreLater (line ∷ lines) = ComesTo line old turned mid × AreLater lines
 
+module _ {R J W : Type 0} (g : Ghosts R) (jg : JournalGhosts R J) (owes : W → List ℕ) where
   -- these lines ended in the turns at socket o, one in each, and nothing else
-  abbrev pub LinesCome : (o : ℕ) (works : List Work) (old new : Desk R) (here next : Place J) → Goes g jg old here works new next → List (List ℕ) → Type 0
+  abbrev pub LinesCome : (o : ℕ) (works : List Work) (old new : Desk R) (here next : Place J W) → Goes g jg owes old here works new next → List (List ℕ) → Type 0
   LinesCome o [] old new here next goes lines = lines ≡ []
   LinesCome o (enters p j text turned deeds said ∷ later) old new here next goes lines =
-      TakesLine (nat_eq p o && ends_line turned) old turned goes.0 (LinesCome o later goes.0 new goes.1 next goes.3) lines
+      TakesLine g jg (nat_eq p o && ends_line turned) old turned goes.0 (LinesCome o later goes.0 new goes.1 next goes.3) lines
   LinesCome o (other ∷ later) old new here next goes lines = LinesCome o later goes.0 new goes.1 next goes.3 lines
 
   -- these bytes were read of socket o, and those were written to it
-  pub record IsOfficeStream (o : ℕ) (works : List Work) (old new : Desk R) (here next : Place J) (goes : Goes g jg old here works new next) (read written : List ℕ) : Type 0 where
+  pub record IsOfficeStream (o : ℕ) (works : List Work) (old new : Desk R) (here next : Place J W) (goes : Goes g jg owes old here works new next) (read written : List ℕ) : Type 0 where
     pub lines : List (List ℕ)
     pub more : List (List ℕ)
     pub unwritten : List ℕ
@@ -96,7 +97,7 @@ module _ {R J : Type 0} (g : Ghosts R) (jg : JournalGhosts R J) where
 
   -- for a socket of the land office that came once, and for all else that may be done
   abbrev pub OfficeIsAnswered : Type 0
-  OfficeIsAnswered = (o k : ℕ) (before later : List Work) (old mid new : Desk R) (first here next : Place J)
-      → IsEmpty first → Goes g jg old first before mid here → (goes : Goes g jg mid here (office_comes o k ∷ later) new next)
+  OfficeIsAnswered = (o k : ℕ) (before later : List Work) (old mid new : Desk R) (first here next : Place J W)
+      → IsEmpty first → Goes g jg owes old first before mid here → (goes : Goes g jg owes mid here (office_comes o k ∷ later) new next)
       → comes o (all_deeds before) ≡ false → comes o (all_deeds later) ≡ false
       → IsOfficeStream o (office_comes o k ∷ later) mid new here next goes (given_by o (all_deeds (before ++ office_comes o k ∷ later))) (taken_by o (all_deeds (before ++ office_comes o k ∷ later)))

@@ -23,8 +23,8 @@ use Rattle.cad_clients.specs.declared.channel.Channel.{Channel}
 use Rattle.cad_clients.specs.declared.client.Client.{Client}
 use Rattle.cad_clients.specs.declared.clients.Clients.{Clients}
 use Rattle.cad_clients.specs.declared.turned.Ending.{Ending}
-use Rattle.cad_clients.specs.declared.turned.Ending.TheVariants.{PeerEnded, WeEnded, Refused, ReadFailed, WriteFailed}
-use Rattle.cad_clients.specs.Channels.{Act, wrote, took, fed, Does, MayWait, SendsFault, EndsSo, Closes}
+use Rattle.cad_clients.specs.declared.turned.Ending.TheVariants.{PeerEnded, WeEnded, Refused, Unmade, ReadFailed, WriteFailed}
+use Rattle.cad_clients.specs.Channels.{Act, wrote, took, fed, worked, is_working, Does, MayWait, SendsFault, EndsSo, Closes}
 use Rattle.cad_clients.specs.Laws.{IsNew}
 use Rattle.cad_clients.specs.Slots.{client_at}
 use Rattle.cad_office.specs.declared.print.Answer.{Answer}
@@ -46,14 +46,14 @@ use Rattle.cad_event_loop.specs.declared.stopped.Stopped.{Stopped}
 use Rattle.cad_event_loop.specs.declared.stopped.Stopped.TheVariants.{Asked, StoreRefused}
 
 -- the open connections by their numbers, each with the name of its socket and its channel
-abbrev pub Held : Type 0
-Held = ℕ → Option (ℕ × Channel)
+abbrev pub Held : Type 0 → Type 0
+Held W = ℕ → Option (ℕ × Channel W)
 
-abbrev pub held_of : {S : Type 0} → (S → ℕ) → Option (Client S) → Option (ℕ × Channel)
+abbrev pub held_of : {S W : Type 0} → (S → ℕ) → Option (Client S W) → Option (ℕ × Channel W)
 held_of name None = None
 held_of name (Some client) = Some (name client.socket, client.channel)
 
-abbrev pub held_at : {S : Type 0} → (S → ℕ) → Clients S → Held
+abbrev pub held_at : {S W : Type 0} → (S → ℕ) → Clients S W → Held W
 held_at name clients c = held_of name (client_at clients c)
 
 -- connection c is this one afterwards, or is not open, and all others are as they were
@@ -76,15 +76,15 @@ abbrev pub most_offices : ℕ
 most_offices = 4
 
 -- who is here
-pub record Place (J : Type 0) : Type 0 where
-  pub slots : Held
+pub record Place (J W : Type 0) : Type 0 where
+  pub slots : Held W
   pub offices : AtOffices J
 
-abbrev pub place_of : {S J : Type 0} → (S → ℕ) → Clients S → AtOffices J → Place J
+abbrev pub place_of : {S J W : Type 0} → (S → ℕ) → Clients S W → AtOffices J → Place J W
 place_of name clients offices = record { slots = held_at name clients; offices = offices }
 
 -- nobody is here
-abbrev pub IsEmpty : {J : Type 0} → Place J → Type 0
+abbrev pub IsEmpty : {J W : Type 0} → Place J W → Type 0
 IsEmpty place = ((c : ℕ) → place.slots c ≡ None) × ((k : ℕ) → place.offices k ≡ None)
 
 -- what the desk gets, and its answer: an event; or the land office's question what would be answered to a command; or the request to read
@@ -99,14 +99,15 @@ abbrev pub Said : Type 0
 Said = Option DeskCall
 
 -- One of these is done:
--- the network reports that the sockets at these places may continue; socket s comes and is connection c; connection c acts at socket s;
--- its socket gives or takes nothing for now; it ends, by a turn of its own or because it is closed, with these deeds;
+-- the network reports that the sockets at these places may continue; socket s comes and is connection c; connection c acts at socket s, and a
+-- reply of it is to be worked on since then, or not; its socket gives or takes nothing for now; it ends, by a turn of its own or because it is
+-- closed, with these deeds;
 -- the land office comes at socket o and has connection k; it has a turn there, in which the line with this text ends, if one does, or this
 -- text of a journal is to be written; this connection is let go, since its answer is overdue or since hosting ends; or something is done for none of them
 pub data Work : Type 0 where
   wakes : List ℕ → Work
   opens : ℕ → ℕ → Work
-  acts : ℕ → ℕ → Act → Work
+  acts : ℕ → ℕ → Act → Bool → Work
   waits : ℕ → ℕ → Work
   ends : ℕ → ℕ → Option Ending → List Deed → Said → Work
   office_comes : ℕ → ℕ → Work
@@ -119,11 +120,12 @@ abbrev pub deeds_in : ℕ → Act → List Deed
 deeds_in s (wrote bytes) = deed.took s bytes ∷ []
 deeds_in s (took bytes) = deed.gave s bytes ∷ []
 deeds_in s (fed piece out over) = []
+deeds_in s worked = []
 
 abbrev pub deeds_of : Work → List Deed
 deeds_of (wakes places) = map woke places
 deeds_of (opens s c) = came s ∷ []
-deeds_of (acts s c act) = deeds_in s act
+deeds_of (acts s c act owing) = deeds_in s act
 deeds_of (waits s c) = blocked s ∷ []
 deeds_of (ends s c cause deeds said) = deeds
 deeds_of (office_comes o k) = office_came o ∷ []
@@ -139,7 +141,7 @@ all_deeds (work ∷ later) = deeds_of work ++ all_deeds later
 abbrev pub said_by : Work → Said
 said_by (wakes places) = None
 said_by (opens s c) = None
-said_by (acts s c act) = None
+said_by (acts s c act owing) = None
 said_by (waits s c) = None
 said_by (ends s c cause deeds said) = said
 said_by (office_comes o k) = None
@@ -161,6 +163,7 @@ abbrev pub end_with : Ending → Option Stopped
 end_with PeerEnded = None
 end_with WeEnded = None
 end_with (Refused fault) = store_end (is_store (Err fault))
+end_with Unmade = None
 end_with ReadFailed = None
 end_with WriteFailed = None
 
@@ -192,7 +195,7 @@ end_of_turned turn.Over = None
 abbrev pub end_by : Work → Option Stopped
 end_by (wakes places) = None
 end_by (opens s c) = None
-end_by (acts s c act) = None
+end_by (acts s c act owing) = None
 end_by (waits s c) = None
 end_by (ends s c cause deeds said) = end_of_cause cause
 end_by (office_comes o k) = None
@@ -224,7 +227,7 @@ IsOf c (Some (question command answer)) = ⊥
 IsOf c (Some (rows answer)) = ⊥
 
 -- the event is of no connection: the desk refused to open one
-abbrev pub IsOfNone : Held → Said → Type 0
+abbrev pub IsOfNone : {W : Type 0} → Held W → Said → Type 0
 IsOfNone slots None = ⊤
 IsOfNone slots (Some (event e answer)) = (c : ℕ) × (slots c ≡ None) × (e ≡ Open c) × IsErr answer
 IsOfNone slots (Some (question command answer)) = ⊥
@@ -292,38 +295,6 @@ module _ {R J : Type 0} (g : Ghosts R) (jg : JournalGhosts R J) where
   Tells old (Some (question command answer)) new = ChecksAtDesk g old command answer new
   Tells old (Some (rows answer)) new = (before : J) × (after : J) × ReadsAtDesk g jg old before most_rows answer new after
 
-  -- connection c is over by a turn of its own, or it is closed; and its socket is let go
-  abbrev pub Leaves : ℕ → ℕ → Desk R → Channel → Option Ending → List Deed → Desk R → Type 0
-  Leaves c s old channel (Some ending) deeds new = (own : List Deed) × (deeds ≡ own ++ left s ∷ []) × EndsSo g c s old channel ending new own
-  Leaves c s old channel None deeds new = (deeds ≡ left s ∷ []) × Closes g c old new
-
-  -- one thing is done
-  abbrev pub Works : Desk R → Place J → Work → Desk R → Place J → Type 0
-  Works old here (wakes places) new next = (new ≡ old) × Same here.slots next.slots × Same here.offices next.offices
-  Works old here (opens s c) new next =
-      (channel : Channel) × (here.slots c ≡ None) × IsNew channel × Steps g old (Open c) (Ok reply.Opened) new × Puts here.slots next.slots c (Some (s, channel)) × Same here.offices next.offices
-  Works old here (acts s c act) new next =
-      (channel : Channel) × (after : Channel) × (here.slots c ≡ Some (s, channel)) × Does g c old channel act new after × Puts here.slots next.slots c (Some (s, after)) × Same here.offices next.offices
-  Works old here (waits s c) new next =
-      (channel : Channel) × (here.slots c ≡ Some (s, channel)) × MayWait channel × (new ≡ old) × Same here.slots next.slots × Same here.offices next.offices
-  Works old here (ends s c cause deeds said) new next =
-      (channel : Channel) × (here.slots c ≡ Some (s, channel)) × Leaves c s old channel cause deeds new × IsOf c said × Tells old said new × Puts here.slots next.slots c None × Same here.offices next.offices
-  Works old here (office_comes o k) new next =
-      (entry : Entry J) × (here.offices k ≡ None) × IsNewEntry entry × Puts here.offices next.offices k (Some (o, entry)) × Same here.slots next.slots × (new ≡ old) × (k < most_offices)
-  Works old here (enters o k text turned deeds said) new next =
-      (entry : Entry J) × (after : Entry J) × (own : List Deed) × (here.offices k ≡ Some (o, entry)) × IsEntryTurn g jg o old entry turned new after own × (deeds ≡ own ++ (if is_last turned then left o ∷ [] else []))
-      × IsLineSaid text turned said × Tells old said new × Puts here.offices next.offices k (if is_last turned then None else Some (o, after)) × Same here.slots next.slots
-      × IsPieceWritten text turned after
-  Works old here (office_leaves o k overdue) new next =
-      (entry : Entry J) × (here.offices k ≡ Some (o, entry)) × Puts here.offices next.offices k None × Same here.slots next.slots × (new ≡ old) × (overdue ≡ true → IsSending entry)
-  Works old here (aside deeds said) new next = IsOfNone here.slots said × Tells old said new × Same here.slots next.slots × IsAside deeds × Same here.offices next.offices
-
-  -- these things are done, one after the other
-  abbrev pub Goes : Desk R → Place J → List Work → Desk R → Place J → Type 0
-  Goes old here [] new next = (new ≡ old) × (next ≡ here)
-  Goes old here (work ∷ later) new next =
-      (mid : Desk R) × (between : Place J) × Works old here work mid between × Goes mid between later new next
-
   -- the ledger was not closed by a refusal
   abbrev pub MayAsk : Desk R → Said → Desk R → Type 0
   MayAsk old None new = ⊤
@@ -331,6 +302,42 @@ module _ {R J : Type 0} (g : Ghosts R) (jg : JournalGhosts R J) where
   MayAsk old (Some (question command answer)) new = IfErr answer (λ fault. ¬ IsShut g.lives g.fails (responder_of old) fault (responder_of new))
   MayAsk old (Some (rows answer)) new = IfErr answer (λ fault. ¬ IsShut g.lives g.fails (responder_of old) fault (responder_of new))
 
-  abbrev pub MayGoOn : (works : List Work) (old new : Desk R) (here next : Place J) → Goes old here works new next → Type 0
+-- connection c is over by a turn of its own, or it is closed; and its socket is let go
+abbrev pub Leaves : {R W : Type 0} → Ghosts R → ℕ → ℕ → Desk R → Channel W → Option Ending → List Deed → Desk R → Type 0
+Leaves g c s old channel (Some ending) deeds new = (own : List Deed) × (deeds ≡ own ++ left s ∷ []) × EndsSo g c s old channel ending new own
+Leaves g c s old channel None deeds new = (deeds ≡ left s ∷ []) × Closes g c old new
+
+-- the same, where the replies that are owed are what their work owes
+module _ {R J W : Type 0} (g : Ghosts R) (jg : JournalGhosts R J) (owes : W → List ℕ) where
+  -- one thing is done
+  abbrev pub Works : Desk R → Place J W → Work → Desk R → Place J W → Type 0
+  Works old here (wakes places) new next = (new ≡ old) × Same here.slots next.slots × Same here.offices next.offices
+  Works old here (opens s c) new next =
+      (channel : Channel W) × (here.slots c ≡ None) × IsNew channel × Steps g old (Open c) (Ok reply.Opened) new × Puts here.slots next.slots c (Some (s, channel)) × Same here.offices next.offices
+  Works old here (acts s c act owing) new next =
+      (channel : Channel W) × (after : Channel W) × (here.slots c ≡ Some (s, channel)) × Does g owes c old channel act new after × Puts here.slots next.slots c (Some (s, after)) × Same here.offices next.offices
+      × (owing ≡ is_working after)
+  Works old here (waits s c) new next =
+      (channel : Channel W) × (here.slots c ≡ Some (s, channel)) × MayWait channel × (new ≡ old) × Same here.slots next.slots × Same here.offices next.offices
+  Works old here (ends s c cause deeds said) new next =
+      (channel : Channel W) × (here.slots c ≡ Some (s, channel)) × Leaves g c s old channel cause deeds new × IsOf c said × Tells g jg old said new × Puts here.slots next.slots c None × Same here.offices next.offices
+  Works old here (office_comes o k) new next =
+      (entry : Entry J) × (here.offices k ≡ None) × IsNewEntry entry × Puts here.offices next.offices k (Some (o, entry)) × Same here.slots next.slots × (new ≡ old) × (k < most_offices)
+  Works old here (enters o k text turned deeds said) new next =
+      (entry : Entry J) × (after : Entry J) × (own : List Deed) × (here.offices k ≡ Some (o, entry)) × IsEntryTurn g jg o old entry turned new after own × (deeds ≡ own ++ (if is_last turned then left o ∷ [] else []))
+      × IsLineSaid text turned said × Tells g jg old said new × Puts here.offices next.offices k (if is_last turned then None else Some (o, after)) × Same here.slots next.slots
+      × IsPieceWritten text turned after
+  Works old here (office_leaves o k overdue) new next =
+      (entry : Entry J) × (here.offices k ≡ Some (o, entry)) × Puts here.offices next.offices k None × Same here.slots next.slots × (new ≡ old) × (overdue ≡ true → IsSending entry)
+  Works old here (aside deeds said) new next = IsOfNone here.slots said × Tells g jg old said new × Same here.slots next.slots × IsAside deeds × Same here.offices next.offices
+
+  -- these things are done, one after the other
+  abbrev pub Goes : Desk R → Place J W → List Work → Desk R → Place J W → Type 0
+  Goes old here [] new next = (new ≡ old) × (next ≡ here)
+  Goes old here (work ∷ later) new next =
+      (mid : Desk R) × (between : Place J W) × Works old here work mid between × Goes mid between later new next
+
+  -- the ledger was not closed meanwhile by a refusal
+  abbrev pub MayGoOn : (works : List Work) (old new : Desk R) (here next : Place J W) → Goes old here works new next → Type 0
   MayGoOn [] old new here next goes = ⊤
-  MayGoOn (work ∷ later) old new here next goes = MayAsk old (said_by work) goes.0 × MayGoOn later goes.0 new goes.1 next goes.3
+  MayGoOn (work ∷ later) old new here next goes = MayAsk g jg old (said_by work) goes.0 × MayGoOn later goes.0 new goes.1 next goes.3

@@ -1,4 +1,4 @@
-//! Counting the replies that are sent.
+//! Counting the replies that are made.
 
 use cad_clients::{AccessLog, Ending, Served};
 use cad_desk::DeskFault;
@@ -72,6 +72,7 @@ pub(crate) fn after_opening(figures: Figures, opened: Result<(), DeskFault>) -> 
 pub(crate) fn after_serving(figures: Figures, served: Served) -> Figures {
     match served {
         Served::Over(Ending::Refused(fault)) => after_fault(figures, fault),
+        Served::Over(Ending::Unmade) => after_fault(figures, DeskFault::Memory),
         Served::Over(_) | Served::Stays | Served::Unknown => figures,
     }
 }

@@ -12,9 +12,12 @@
 //! closes without reading or answering, and at every end each socket is let go.
 //!
 //! The works are rounds. In each round, each connection that may continue has its turns, and each of the land office has one after each
-//! client's. A connection may continue if it came or the network reported it since its last turn, or if it did not wait then. A connection has turns up
-//! to one at which it waits or is over, or a reply is written, or it has four. `laws` has what follows for a client's socket, for the
-//! office's and for the ledger.
+//! client's. A connection may continue if it came or the network reported it since its last turn, or if it did not wait then. A connection has
+//! turns up to one at which it waits or is over, or a reply is written, or a piece of work did not make its reply, or it has four. Those whose
+//! replies are to be worked on stand in a line: after the turns of the others in a round, the first of the line has one piece of work and goes
+//! behind at most seven others. So a small request waits for one piece of work and for those that may continue, however many replies are worked
+//! on, and the work in a round is at most 64 first pieces and a later one. `laws` has what follows for a client's socket, for the office's and
+//! for the ledger.
 //!
 //! What remains to be checked by reading this code, and is only tested, by `clients_cases`, `scripts/check_host`, `scripts/check_clients`
 //! and `scripts/check_proxy`:
@@ -25,7 +28,7 @@
 //!   connection, or after 64 clients came in a round.
 //!
 //! ```text
-//! host(alloc, &mut net, &mut desk, &mut NoLog)?    // Stopped::Asked after the office's line `stop`
+//! host(alloc, &mut net, &mut desk, &mut meter, &mut NoLog)?    // Stopped::Asked after the office's line `stop`
 //! ```
 #![tactic(auto)]
 
@@ -33,6 +36,7 @@ mod closing;
 mod counting;
 mod hosting;
 pub mod laws;
+mod line;
 mod office;
 mod offices;
 mod peers;

@@ -14,7 +14,7 @@ pub(crate) struct Offices<S, J> {
 }
 
 impl<S: Drop, J: Drop> Offices<S, J> {
-    ghost use Rattle.std.specs.Prelude.{ℕ, ◌<◌, None, IfOk, IfSome, IsTrue, option_copied};
+    ghost use Rattle.std.specs.Prelude.{ℕ, ◌<◌, ◌↔◌, None, IfOk, IfSome, IsSome, IsTrue, option_copied};
     ghost use Rattle.cad_event_loop.specs.inner.Offices.{seat_at, IsOfficeSending, Seats};
 
     /// No connection, and room for four.
@@ -47,7 +47,8 @@ impl<S: Drop, J: Drop> Offices<S, J> {
 
     /// A number that no connection has, if fewer than four are open.
     pub(crate) fn free_number(&self) -> Option<usize>
-        ensures { IfSome result (λ k. k < 4 × seat_at self.now k ≡ None) }
+        ensures free { IfSome result (λ k. k < 4 × seat_at self.now k ≡ None) }
+        ensures full { result ≡ None → (k : ℕ) → k < 4 → IsSome (seat_at self.now k) }
     {
         for k in 0..MOST_OFFICES {
             if self.seats[k].is_none() {
@@ -81,7 +82,7 @@ impl<S: Drop, J: Drop> Offices<S, J> {
 
     /// Whether an answer of this connection is not fully written.
     pub(crate) fn is_sending(&self, k: usize) -> bool
-        ensures { IsTrue result → IsOfficeSending (seat_at self.now k) }
+        ensures { IsTrue result ↔ IsOfficeSending (seat_at self.now k) }
     {
         match self.office(k) {
             Some(office) => office.entry.is_sending(),
@@ -90,8 +91,15 @@ impl<S: Drop, J: Drop> Offices<S, J> {
     }
 
     /// Whether an answer of one of them is not fully written.
-    pub(crate) fn any_sending(&self) -> bool {
-        (0..MOST_OFFICES).any(|k| self.is_sending(k))
+    pub(crate) fn any_sending(&self) -> bool
+        ensures { (k : ℕ) → k < 4 → IsOfficeSending (seat_at self.now k) → IsTrue result }
+    {
+        for k in 0..MOST_OFFICES {
+            if self.is_sending(k) {
+                return true;
+            }
+        }
+        false
     }
 
     /// Whether the socket of this connection took no byte of an answer for too long.

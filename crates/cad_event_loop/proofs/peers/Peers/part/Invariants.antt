@@ -5,5 +5,5 @@ use Rattle.cad_event_loop.proofs.peers.Peers.part.Given as goal
 
 abbrev pub invariant-loop-c : goal.invariant-loop-c
 invariant-loop-c g l =
-    ((office : AtOffices g.row.R-Reading.Denot) → Hosts g.R.Responder g.R.JournalResponder IsClosing None (g.N.Network.history l.fn.net) l.fn.desk (place_of g.N.Network.name l.fn.self.clients office) (g.N.Network.history l.net) l.desk (place_of g.N.Network.name l.self.clients office))
+    ((office : AtOffices g.row.R-Reading.Denot) → Hosts g.R.Responder g.R.JournalResponder g.R.WorkingResponder.owes IsClosing None (g.N.Network.history l.fn.net) l.fn.desk (place_of g.N.Network.name l.fn.self.clients office) (g.N.Network.history l.net) l.desk (place_of g.N.Network.name l.self.clients office))
     × ((d : ℕ) → d < l.c → held_at g.N.Network.name l.self.clients d ≡ None)

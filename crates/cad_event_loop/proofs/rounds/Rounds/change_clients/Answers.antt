@@ -11,6 +11,6 @@ returns-clause-hosts g c =
     let first = standings c.args.self.now.peers office in
     let mid = standings c.drop_overdue.new.self office in
     let last = standings c.take_clients.new.self office in
-    serves-then g.R.Responder g.R.JournalResponder (IsAtDoors 64 first mid) (IsAtDoors 64 mid last) (IsAtDoors 128 first last) None _ _ _ c.args.desk.now c.drop_overdue.new.desk c.take_clients.new.desk _ _ _
+    serves-then g.R.Responder g.R.JournalResponder g.R.WorkingResponder.owes (IsAtDoors 64 first mid) (IsAtDoors 64 mid last) (IsAtDoors 128 first last) None _ _ _ c.args.desk.now c.drop_overdue.new.desk c.take_clients.new.desk _ _ _
     (λ xs ys. doors-append 64 64 128 first mid last xs ys (omega arith))
     (c.drop_overdue.ensures office) (c.take_clients.ensures office)

@@ -10,5 +10,5 @@ returns-clause-hosts g c =
     let first = standing g.N.Network.name c.args.self.now in
     let mid = standing g.N.Network.name c.drop_offices.new.self in
     let last = standing g.N.Network.name c.take_office.new.self in
-    serves-then g.R.Responder g.R.JournalResponder (IsAtDoors 4 first mid) (IsAtDoors 1 mid last) (IsAtDoors 5 first last) None _ _ _ c.args.desk.now c.drop_offices.new.desk c.take_office.new.desk _ _ _
+    serves-then g.R.Responder g.R.JournalResponder g.R.WorkingResponder.owes (IsAtDoors 4 first mid) (IsAtDoors 1 mid last) (IsAtDoors 5 first last) None _ _ _ c.args.desk.now c.drop_offices.new.desk c.take_office.new.desk _ _ _
     (λ xs ys. doors-append 4 1 5 first mid last xs ys (omega arith)) c.drop_offices.ensures.hosts c.take_office.ensures.hosts

@@ -13,7 +13,7 @@ returns-in-Some-clause-hosts g c =
     let gone = rw c.into_socket.ensures at c.let_go.ensures in
     let sending = was_sending c.in-Some.office (seat_at c.args.self.now.offices c.args.k) c.in-Some.ensures.was (c.is_overdue.ensures c.if-not-is_overdue.false) in
     let flags = flag_at c.args.self.now.peers.ready in
-    dropped_office g.R.Responder g.R.JournalResponder name c.args.k c.args.self.now.peers.clients flags flags (offices_at name c.args.self.now.offices) (offices_at name c.take.new.self) c.in-Some.office _ _ c.args.desk.now
+    dropped_office g.R.Responder g.R.JournalResponder g.R.WorkingResponder.owes name c.args.k c.args.self.now.peers.clients flags flags (offices_at name c.args.self.now.offices) (offices_at name c.take.new.self) c.args.self.now.peers.line.numbers.items c.in-Some.office _ _ c.args.desk.now
     (seat_here name c.args.k c.in-Some.office c.args.self.now.offices c.in-Some.ensures.was) (seats_put name c.args.k None c.args.self.now.offices c.take.new.self c.take.ensures.rest) sending gone
 
 pub returns-in-Some-clause-begun : goal.returns-in-Some-clause-begun
@@ -28,4 +28,4 @@ returns-in_default-clause-begun g c = all_begun None c.args.k None c.args.self.n
 pub returns-then-not-is_overdue-clause-hosts : goal.returns-then-not-is_overdue-clause-hosts
 returns-then-not-is_overdue-clause-hosts g c =
     let first = standing g.N.Network.name c.args.self.now in
-    serves-nil g.R.Responder g.R.JournalResponder (IsAtDoors 1 first first) (g.N.Network.history c.args.net.now) c.args.desk.now (here g.N.Network.name c.args.self.now) (doors-nil 1 first)
+    serves-nil g.R.Responder g.R.JournalResponder g.R.WorkingResponder.owes (IsAtDoors 1 first first) (g.N.Network.history c.args.net.now) c.args.desk.now (here g.N.Network.name c.args.self.now) (doors-nil 1 first)

@@ -7,4 +7,4 @@ use Rattle.cad_event_loop.proofs.rounds.Rounds.drop_offices.Given as goal
 
 abbrev pub invariant-loop-k : goal.invariant-loop-k
 invariant-loop-k g l =
-    HaveBegun l.self.offices × Serves g.R.Responder g.R.JournalResponder (IsAtDoors l.k (standing g.N.Network.name l.fn.self) (standing g.N.Network.name l.self)) None (g.N.Network.history l.fn.net) l.fn.desk (here g.N.Network.name l.fn.self) (g.N.Network.history l.net) l.desk (here g.N.Network.name l.self)
+    HaveBegun l.self.offices × Serves g.R.Responder g.R.JournalResponder g.R.WorkingResponder.owes (IsAtDoors l.k (standing g.N.Network.name l.fn.self) (standing g.N.Network.name l.self)) None (g.N.Network.history l.fn.net) l.fn.desk (here g.N.Network.name l.fn.self) (g.N.Network.history l.net) l.desk (here g.N.Network.name l.self)

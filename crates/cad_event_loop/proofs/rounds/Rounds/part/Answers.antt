@@ -8,4 +8,4 @@ pub returns-clause-nobody : goal.returns-clause-nobody
 returns-clause-nobody g c = ((λ d. rw c.part_offices.ensures.clients (c.part.ensures.nobody d)), λ k. ap (office_at g.N.Network.name) (c.part_offices.ensures.nobody k))
 
 pub returns-clause-hosts : goal.returns-clause-hosts
-returns-clause-hosts g c = hosts-then g.R.Responder g.R.JournalResponder IsClosing None _ _ _ c.args.desk.now c.part.new.desk c.part_offices.new.desk _ _ _ (c.part.ensures.hosts (offices_at g.N.Network.name c.args.self.now.offices)) c.part_offices.ensures.hosts
+returns-clause-hosts g c = hosts-then g.R.Responder g.R.JournalResponder g.R.WorkingResponder.owes IsClosing None _ _ _ c.args.desk.now c.part.new.desk c.part_offices.new.desk _ _ _ (c.part.ensures.hosts (offices_at g.N.Network.name c.args.self.now.offices)) c.part_offices.ensures.hosts

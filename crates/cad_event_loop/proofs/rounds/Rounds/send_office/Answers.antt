@@ -8,11 +8,11 @@ pub returns : goal.returns
 returns g c =
     let name = g.N.Network.name in
     let seats = put_seat c.args.k None c.send-turned.result.1 c.args.self.now.offices c.take.new.self c.put.new.self c.take.ensures.rest c.put.ensures in
-    office_sent g.R.Responder g.R.JournalResponder name c.args.k c.args.self.now.peers.clients (flag_at c.args.self.now.peers.ready) (flag_at c.args.self.now.peers.ready) (offices_at name c.args.self.now.offices) (offices_at name c.put.new.self) c.in-Some.office c.send-turned.result _ _ c.args.desk.now
+    office_sent g.R.Responder g.R.JournalResponder g.R.WorkingResponder.owes name c.args.k c.args.self.now.peers.clients (flag_at c.args.self.now.peers.ready) (flag_at c.args.self.now.peers.ready) (offices_at name c.args.self.now.offices) (offices_at name c.put.new.self) c.args.self.now.peers.line.numbers.items c.in-Some.office c.send-turned.result _ _ c.args.desk.now
     (seat_here name c.args.k c.in-Some.office c.args.self.now.offices c.in-Some.ensures.was) (seats_put name c.args.k c.send-turned.result.1 c.args.self.now.offices c.put.new.self seats) c.send-turned.ensures
 
 pub returns-in_default : goal.returns-in_default
-returns-in_default g c = absurd (none_sending (seat_at c.args.self.now.offices c.args.k) c.in_default.ensures.was (c.is_sending.ensures c.if-not-is_sending.false))
+returns-in_default g c = absurd (none_sending (seat_at c.args.self.now.offices c.args.k) c.in_default.ensures.was (c.is_sending.ensures.0 c.if-not-is_sending.false))
 
 pub send-turned-requires : goal.send-turned-requires
-send-turned-requires g c = was_sending c.in-Some.office (seat_at c.args.self.now.offices c.args.k) c.in-Some.ensures.was (c.is_sending.ensures c.if-not-is_sending.false)
+send-turned-requires g c = was_sending c.in-Some.office (seat_at c.args.self.now.offices c.args.k) c.in-Some.ensures.was (c.is_sending.ensures.0 c.if-not-is_sending.false)

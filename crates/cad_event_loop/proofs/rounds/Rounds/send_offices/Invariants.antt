@@ -4,4 +4,4 @@ use Rattle.cad_event_loop.specs.inner.Rounds.{here}
 use Rattle.cad_event_loop.proofs.rounds.Rounds.send_offices.Given as goal
 
 abbrev pub invariant-loop-k : goal.invariant-loop-k
-invariant-loop-k g l = Hosts g.R.Responder g.R.JournalResponder IsClosing None (g.N.Network.history l.fn.net) l.fn.desk (here g.N.Network.name l.fn.self) (g.N.Network.history l.net) l.desk (here g.N.Network.name l.self)
+invariant-loop-k g l = Hosts g.R.Responder g.R.JournalResponder g.R.WorkingResponder.owes IsClosing None (g.N.Network.history l.fn.net) l.fn.desk (here g.N.Network.name l.fn.self) (g.N.Network.history l.net) l.desk (here g.N.Network.name l.self)

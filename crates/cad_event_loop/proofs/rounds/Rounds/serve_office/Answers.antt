@@ -11,4 +11,4 @@ returns-then-not-office-clause-hosts g c =
     let first = standing g.N.Network.name c.args.self.now in
     let unready = ap (λ (it : Bool). Some it) (sym c.if-not-office.true) ∙ c.office.ensures in
     let none = office_unready c.args.k c.args.self.now.peers (offices_at g.N.Network.name c.args.self.now.offices) unready in
-    serves-nil g.R.Responder g.R.JournalResponder (ServesOffice c.args.k 8 first first) (g.N.Network.history c.args.net.now) c.args.desk.now (here g.N.Network.name c.args.self.now) none
+    serves-nil g.R.Responder g.R.JournalResponder g.R.WorkingResponder.owes (ServesOffice c.args.k 8 first first) (g.N.Network.history c.args.net.now) c.args.desk.now (here g.N.Network.name c.args.self.now) none

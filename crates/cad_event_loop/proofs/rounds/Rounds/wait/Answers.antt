@@ -6,4 +6,4 @@ use Rattle.cad_event_loop.proofs.GoesLemmas.{serves_woken}
 use Rattle.cad_event_loop.proofs.rounds.Rounds.wait.Goals as goal
 
 pub returns-clause-hosts : goal.returns-clause-hosts
-returns-clause-hosts g c = serves_woken g.R.Responder g.R.JournalResponder c.args.self.now.peers c.wait.new.self (offices_at g.N.Network.name c.args.self.now.offices) _ _ c.args.desk.now (here g.N.Network.name c.args.self.now) (place_of g.N.Network.name c.wait.new.self.clients (offices_at g.N.Network.name c.args.self.now.offices)) c.wait.ensures.told c.wait.ensures.held (λ k. refl)
+returns-clause-hosts g c = serves_woken g.R.Responder g.R.JournalResponder g.R.WorkingResponder.owes c.args.self.now.peers c.wait.new.self (offices_at g.N.Network.name c.args.self.now.offices) _ _ c.args.desk.now (here g.N.Network.name c.args.self.now) (place_of g.N.Network.name c.wait.new.self.clients (offices_at g.N.Network.name c.args.self.now.offices)) c.wait.ensures.told c.wait.ensures.held (λ k. refl)
