@@ -31,11 +31,12 @@ scripts/check_changes_cases counts what the stored cases have of this.
 """
 import json
 import random
-import sys
 from collections import Counter
 from datetime import date, timedelta
 from itertools import zip_longest
 from typing import NamedTuple
+
+from calling import a_number, arguments, with_defaults
 
 COUNT = 60
 COLLECTIONS = {
@@ -376,7 +377,7 @@ def cases(seed):
 
 
 def main():
-    print("\n".join(cases(int(sys.argv[1]) if len(sys.argv) > 1 else 1)))
+    print("\n".join(cases(*with_defaults(arguments(__doc__, a_number), 1))))
 
 
 if __name__ == "__main__":

@@ -5,6 +5,7 @@
     scripts/host_cases.py offices [SEED]     prints those of several connections of the office; the stored ones have seed 1
     scripts/host_cases.py journals [SEED]    prints those in which offices ask for journals; the stored ones have seed 1
     scripts/host_cases.py statuses [SEED]    prints those in which offices ask for the status; the stored ones have seed 1
+    scripts/host_cases.py works [SEED]       prints those in which replies take units of work; the stored ones have seed 1
 
 Each case is a line `host STEPS`. In it, clients and land offices connect, send, take and fail in some order, and the network reports them in
 some order. The cases have:
@@ -18,13 +19,16 @@ some order. The cases have:
 
 Several connections of the office send lines alternately, wait at the door, do nothing, or take nothing for 300 seconds. Journals are asked
 for while others enter commands; they are long or short, are taken slowly or not at all, and two of them are not read. The status is asked for
-while clients come, go, and are refused, and commands are entered, refused and checked.
+while clients come, go, and are refused, and commands are entered, refused and checked. Replies take units of work, some of them more than there
+is memory for, while other clients and the office are served, or leave, or nobody else is there.
 
 The database refuses commands for object 6. The end must report that even if the office has left, and the first cases test this.
 """
 import random
 import sys
 from dataclasses import dataclass
+
+from calling import a_number, arguments, one_of, with_defaults
 
 REQUESTS = ["GET /a HTTP/1.1||", "GET /b HTTP/1.1|Host: x||", "GET /c HTTP/1.0||", "POST /d HTTP/1.1|Connection: close||", "GET /lost HTTP/1.1||", "GET /full HTTP/1.1||", "no request|", "GET /e HTTP/1.1|"]
 LINES = ['{"do":"enter","object":%d,"first":"2000-01-01","unit":{}}_', "hello_", "_", '{"do":"enter","object":%d,']
@@ -194,9 +198,65 @@ STATUSES = [
 ]
 
 
-def texts(chance):
+def asks(peer, target):
+    """A client sends a request for a target."""
+    return f"give {peer} GET {target} HTTP/1.1||"
+
+
+def clients(count):
+    """So many clients that are taken in one round, and whose sockets take much."""
+    return ["come"] * count + [f"room {peer} {MUCH}" for peer in range(count)] + ["wake 64", "end"]
+
+
+def woken(count):
+    return "wake " + " ".join(str(it) for it in range(count))
+
+
+STOP = ["give 3 stop_", "wake 66"] + rounds(6)
+BUSY = ["come"] * 3 + ["office"] + [f"room {peer} {MUCH}" for peer in range(4)] + ["wake 64 65"] + rounds(7)
+SEVERAL = "give 0 " + "".join(f"GET {it} HTTP/1.1||" for it in ("/units/2000", "/b", "/units/9900", "/units/30", "/c"))
+WORKS = [
+    # a reply that is made by the first piece, by one more, or by several
+    *(clients(1) + [asks(0, f"/units/{count}"), "wake 0"] + rounds(8) for count in (0, 1, 818, 819, 820, 9010, 9011, 9012, 17203, 17204, 40000)),
+    # other clients and the office are served between two pieces
+    BUSY + [asks(0, "/units/60000"), asks(1, "/a"), "wake 0 1"] + rounds(4) + [asks(2, "/b"), "wake 2"] + rounds(4) + [enters(3, 1), "wake 66"] + rounds(4) + [asks(1, "/c"), asks(2, "/d"), "wake 1 2"] + rounds(30) + STOP,
+    BUSY + [asks(2, "/units/30000"), asks(0, "/units/10000"), enters(3, 1), "wake 66 2 0"] + rounds(3) + [asks(1, "/a"), enters(3, 2), "wake 1 66"] + rounds(30) + STOP,
+    # the reply is that to the moment at which the request was begun
+    BUSY + [asks(0, "/units/20000"), "wake 0", "end", "end", enters(3, 1), "wake 66"] + rounds(3) + [asks(1, "/units/900"), "wake 1"] + rounds(20) + [asks(0, "/a"), "wake 0"] + rounds(4) + STOP,
+    # eight are worked on in turn, and the others wait for their turn
+    clients(12) + [asks(peer, f"/units/{20000 + peer}") for peer in range(12)] + [woken(12)] + rounds(50),
+    clients(12) + [asks(peer, f"/units/{9000 if peer % 3 else 30000}") for peer in range(12)] + [woken(12)] + rounds(10) + [asks(1, "/units/900"), "wake 1"] + rounds(40),
+    clients(9) + [asks(peer, "/units/40000") for peer in range(9)] + [woken(9)] + rounds(12) + ["come", f"room 9 {MUCH}", "wake 64", "end", asks(9, "/a"), "wake 9", "end", asks(9, "/units/10000"), "wake 9"] + rounds(50),
+    clients(3) + [asks(2, "/units/9900"), "wake 2", "end", asks(0, "/units/9900"), "wake 0", "end", asks(1, "/units/9900"), "wake 1"] + rounds(9),
+    # several requests of one client
+    clients(1) + [SEVERAL, "wake 0"] + rounds(14),
+    clients(1) + [SEVERAL, "wake 0", "end", SEVERAL] + rounds(24),
+    clients(2) + [SEVERAL, asks(1, "/units/30000"), "wake 0 1"] + rounds(20),
+    # its socket takes the reply slowly, or nothing
+    ["come", "wake 64", "end", asks(0, "/units/9012"), "wake 0"] + rounds(4) + ["room 0 3", "wake 0", "end", "end", "room 0 100", "wake 0"] + rounds(3),
+    ["come", "wake 64", "end", asks(0, "/units/9012"), "wake 0"] + rounds(4) + ["second 59", "end", "second 60", "end", "end"],
+    # there is no memory for it, in the first piece and in a later one
+    clients(2) + [asks(0, "/unmade/5"), asks(1, "/unmade/820"), "wake 0 1"] + rounds(5),
+    clients(2) + [asks(0, "/unmade/20000"), asks(1, "/units/20000"), "wake 0 1"] + rounds(9),
+    ["come", "wake 64", "end", asks(0, "/unmade/900"), "wake 0"] + rounds(4),
+    # it leaves, or its socket fails, while its reply is worked on
+    clients(2) + [asks(0, "/units/20000"), asks(1, "/units/20000"), "wake 0 1", "end", "hang 0", "break 1", "wake 0 1"] + rounds(9),
+    clients(1) + [asks(0, "/units/9900"), "wake 0", "end", asks(0, "/a"), "hang 0", "wake 0"] + rounds(6),
+    # the time of a request runs from its first later piece on, and no time for a client that does nothing meanwhile
+    clients(1) + [asks(0, "/units/99000"), "wake 0", "end", "second 100", "end", "second 200", "end", "second 299", "end", "second 300", "end", "end"],
+    clients(1) + [asks(0, "/units/40000"), "wake 0", "end", "second 100", "end", "second 200"] + rounds(5) + ["second 259", "end", "second 260", "end", "end"],
+    clients(9) + [asks(peer, "/units/99000") for peer in range(9)] + [woken(9), "end", "second 70"] + rounds(9) + ["second 301"] + rounds(4) + ["second 372"] + rounds(3),
+    # the office asks to stop meanwhile: what is made is written, and the others get nothing
+    BUSY + [asks(0, "/units/20000"), asks(1, "/units/9900"), "wake 0 1"] + rounds(5) + STOP,
+    ["come"] * 2 + ["office", "room 1 5", "wake 64 65"] + rounds(6) + [asks(0, "/units/9011"), asks(1, "/a"), "wake 0 1"] + rounds(8) + ["give 2 stop_", "wake 66", "end", "end", f"room 0 {MUCH}", f"room 1 {MUCH}", "wake 0 1", "end", "end"],
+    # the database refuses a command meanwhile
+    BUSY + [asks(0, "/units/20000"), "wake 0", "end", "end", enters(3, 6), "wake 66"] + rounds(4),
+]
+
+
+def texts(chance, requests):
     """The pieces that a client sends: requests, one after the other."""
-    whole = "".join(chance.choice(REQUESTS) for _ in range(chance.randint(1, 4)))
+    whole = "".join(chance.choice(requests) for _ in range(chance.randint(1, 4)))
     while whole:
         count = chance.choice([1, 5, 17, len(whole), len(whole)])
         yield whole[:count]
@@ -208,11 +268,11 @@ class Case:
 
     def __init__(self, chance, doors=(64, 65, 66)):
         self.chance, self.steps, self.peers, self.unsent, self.offices, self.doors = chance, [], 0, {}, set(), list(doors)
-        self.second, self.lines, self.most, self.greatest = 0, LINES, 4, 6
+        self.second, self.lines, self.most, self.greatest, self.requests = 0, LINES, 4, 6, REQUESTS
 
     def come(self):
         self.steps.append("come")
-        self.unsent[self.peers] = list(texts(self.chance))
+        self.unsent[self.peers] = list(texts(self.chance, self.requests))
         self.peers += 1
 
     def come_office(self):
@@ -350,20 +410,40 @@ def case_of_statuses(chance):
     return drawn.end()
 
 
-KINDS = {"offices": (OFFICES, case_of_offices), "journals": (JOURNALS, case_of_journals), "statuses": (STATUSES, case_of_statuses)}
+def case_of_works(chance):
+    """Clients whose replies take units of work, and connections of the office."""
+    drawn = Case(chance, range(64, 70))
+    counts = [1, 500, 819, 820, 2000, 9011, 9012, 20000, 60000]
+    drawn.requests = REQUESTS + [f"GET /units/{it} HTTP/1.1||" for it in counts] + [f"GET /unmade/{it} HTTP/1.1||" for it in (5, 900, 9900)]
+    for _ in range(chance.choice([1, 2, 3, 12])):
+        drawn.come()
+    for _ in range(chance.randint(0, 2)):
+        drawn.come_office()
+    for _ in range(chance.randint(12, 40)):
+        drawn.draw(CLIENTS)
+        drawn.wait(chance.random() < 0.5)
+    return drawn.end()
+
+
+KINDS = {
+    "offices": (OFFICES, case_of_offices),
+    "journals": (JOURNALS, case_of_journals),
+    "statuses": (STATUSES, case_of_statuses),
+    "works": (WORKS, case_of_works),
+}
 
 
 def main():
     if sys.argv[1:2] and sys.argv[1] in KINDS:
-        chance = random.Random(int(sys.argv[2]) if len(sys.argv) > 2 else 1)
-        listed, draw = KINDS[sys.argv[1]]
+        kind, seed = with_defaults(arguments(__doc__, one_of(KINDS), a_number), None, 1)
+        chance = random.Random(seed)
+        listed, draw = KINDS[kind]
         for steps in listed:
             print("host " + ";".join(steps))
         for _ in range(60):
             print(draw(chance))
         return
-    seed = int(sys.argv[1]) if len(sys.argv) > 1 else 1
-    count = int(sys.argv[2]) if len(sys.argv) > 2 else 400
+    seed, count = with_defaults(arguments(__doc__, a_number, a_number), 1, 400)
     chance = random.Random(seed)
     for steps in REFUSALS:
         print("host " + steps)

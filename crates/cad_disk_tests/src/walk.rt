@@ -82,7 +82,7 @@ fn text_of(answer: &Result<Reply, DeskFault>) -> &str {
         Ok(Reply::Opened) => "opened",
         Ok(Reply::Closed) => "closed",
         Ok(Reply::Entered(_)) => "entered",
-        Ok(Reply::Sent { bytes, .. }) => match str::from_utf8(bytes) {
+        Ok(Reply::Sent { bytes, .. }) => match str::from_utf8(bytes.as_slice()) {
             Ok(text) => text,
             Err(_) => "no text",
         },

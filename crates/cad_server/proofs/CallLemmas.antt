@@ -1,6 +1,7 @@
 -- What the calls of records and servers do, from what the calls inside them do.
 use Rattle.std.proofs.Common.{◌≡◌, ◌≤◌, ◌⊎◌, inl, inr, ℕ, ℤ, Bool, List, [], length, map, Option, Some, None, Result, Ok, Err, refl, sym, ap, ap₂, ◌∙◌, subst, arith, true, true≢false}
-use Rattle.std.specs.Prelude.{if◌then◌else◌, string_bytes, Vec}
+use Rattle.std.specs.Prelude.{codes, if◌then◌else◌, Vec}
+use Rattle.std.proofs.lemmas.Bool.{cond_above, cond_below}
 use Rattle.std.specs.Global.{Global}
 use Rattle.cad_versions.specs.declared.command.Command.{Command}
 use Rattle.cad_versions.specs.declared.fault.RegisterFault.{RegisterFault}
@@ -17,22 +18,28 @@ use Rattle.cad_history.specs.Histories.{AreAllRowsOf, RegisterRows}
 use Rattle.cad_history.specs.Snapshots.{IsSnapshotOf, RevisionFeatures}
 use Rattle.cad_head.specs.Request.{Request}
 use Rattle.cad_resource.specs.Requested.{requested, ends_after}
+use Rattle.cad_head.specs.declared.status.Status.TheVariants as status
 use Rattle.cad_head.specs.Replies.{reply_text}
 use Rattle.cad_stream.specs.Summaries.{highest_object}
 use Rattle.cad_stream.specs.declared.answer.Answer.{Answer}
-use Rattle.cad_stream.specs.Answering.{Answered}
+use Rattle.cad_stream.specs.declared.working_responder.Begun.{Begun}
+use Rattle.cad_stream.specs.Beginning.{told_begun, ends_begun}
+use Rattle.cad_stream.specs.Replies.{IsPlainReply}
 use Rattle.cad_request.specs.declared.request.ParsedRequest.{ParsedRequest}
-use Rattle.cad_request.specs.declared.response.Response.{Response}
 use Rattle.cad_request.specs.ParsedRequests.{IsParsedRequest}
 use Rattle.cad_server.specs.declared.records.Records.{Records}
 use Rattle.cad_server.specs.declared.server.Server.{Server}
 use Rattle.cad_request.specs.declared.feature_request.FeatureRequest.{FeatureRequest}
-use Rattle.cad_server.specs.Contents.{content_in_response, content_in, content_requested}
+use Rattle.cad_server.specs.declared.page_work.PageWork.{PageWork}
+use Rattle.cad_server.specs.declared.located.Located.{Located}
+use Rattle.cad_server.specs.Contents.{content_found, content_in, content_of, content_requested, content_located, refusal, revision_sought, snapshot_at}
+use Rattle.cad_server.specs.inner.Beginnings.{IsAnsweredAs, IsBegun}
+use Rattle.cad_server.specs.Works.{reply_owed}
 use Rattle.cad_server.specs.Replies.{reply_of, IsReply, Asks, FailsToAnswer}
 use Rattle.cad_server.specs.declared.snapshot_cache.SnapshotCache.{SnapshotCache}
 use Rattle.cad_server.specs.declared.totals.Totals.{Totals}
 use Rattle.cad_server.specs.Keeping.{AreTotalsOf, IsCached, KeepsOf, KeepsOnly, StaysCached, StaysWith, cached_at, rows_in}
-use Rattle.cad_server.specs.Servers.{is_damage, ledger_in, ledger_of, revision_listed, AreRecordsOf, IsServerOf, RefusesToAnswer, DamagedForReading, DamagedForTelling, DamagedForAnswer, ListsRows, MakesSnapshot, Prepares, ReadsListed, Recalls, Finds, Tells}
+use Rattle.cad_server.specs.Servers.{is_damage, ledger_in, ledger_of, revision_listed, AreRecordsOf, IsServerOf, RefusesToAnswer, DamagedForReading, DamagedForTelling, DamagedForAnswer, ListsRows, revision_of, IsFoundFor, MakesSnapshot, Prepares, ReadsListed, Recalls, Finds, Seeks, TellsSought, Tells}
 use Rattle.cad_server.proofs.ContentLemmas.{content_at}
 use Rattle.cad_server.proofs.HighestLemmas.{highest_stored}
 use Rattle.cad_server.proofs.KeptLemmas.{keeps_only, kept_found, kept_with, stays_kept}
@@ -50,34 +57,33 @@ module _ {L : Type 0} (g : Ghosts L) where
   stays : (kept : SnapshotCache) → StaysCached kept kept
   stays kept = record { histories = refl; totals = refl; snapshots = λ commands all. all }
 
-  pub recalls_none : {E : Type 0} (revision : ℕ) (sought : FeatureRequest) (old : Records L) → cached_at revision old.kept ≡ None → Recalls g {E = E} revision sought old (Ok None) old
-  recalls_none revision sought old none = record {
-    response = tt;
+  pub recalls_none : {E : Type 0} (revision : ℕ) (old : Records L) → cached_at revision old.kept ≡ None → Recalls g {E = E} revision old (Ok None) old
+  recalls_none revision old none = record {
+    snapshot = tt;
     none = λ e. none;
     same = refl;
     damaged = refl;
     kept = stays old.kept;
   }
 
-  pub recalls_nothing : {E : Type 0} (revision : ℕ) (sought : FeatureRequest) (old : Records L) (fault : E) (given : Result (Option Response) E) → given ≡ Err fault → Recalls g {E = E} revision sought old given old
-  recalls_nothing {E} revision sought old fault given e = subst (λ (r : Result (Option Response) E). Recalls g revision sought old r old) (sym e) (record {
-    response = tt;
+  pub recalls_nothing : {E : Type 0} (revision : ℕ) (old : Records L) (fault : E) (given : Result (Option RevisionFeatures) E) → given ≡ Err fault → Recalls g {E = E} revision old given old
+  recalls_nothing {E} revision old fault given e = subst (λ (r : Result (Option RevisionFeatures) E). Recalls g revision old r old) (sym e) (record {
+    snapshot = tt;
     none = tt;
     same = refl;
     damaged = refl;
     kept = stays old.kept;
   })
 
-  some_not_none : (response : Response) → ¬ (Some response ≡ None)
-  some_not_none response e = absurd cc
+  some_not_none : (snapshot : RevisionFeatures) → ¬ (Some snapshot ≡ None)
+  some_not_none snapshot e = absurd cc
 
-  pub recalls_some : {E : Type 0} (revision : ℕ) (sought : FeatureRequest) (old new : Records L) (snapshot : RevisionFeatures) (response : Response) → ledger_in new ≡ ledger_in old → new.is_damaged ≡ old.is_damaged
-      → StaysCached old.kept new.kept → Some snapshot ≡ cached_at revision old.kept
-      → content_in_response response ≡ content_in sought snapshot → Recalls g {E = E} revision sought old (Ok (Some response)) new
-  recalls_some revision sought old new snapshot response same damaged kept found is = record {
-    response = λ commands all.
-        is ∙ content_at sought revision (as_of revision commands) snapshot (kept_found commands old.kept.snapshots.entries revision snapshot all.snapshots (sym found)).snapshot;
-    none = λ e. absurd (some_not_none response e);
+  pub recalls_some : {E : Type 0} (revision : ℕ) (old new : Records L) (snapshot shared : RevisionFeatures) → ledger_in new ≡ ledger_in old → new.is_damaged ≡ old.is_damaged
+      → StaysCached old.kept new.kept → Some snapshot ≡ cached_at revision old.kept → shared ≡ snapshot → Recalls g {E = E} revision old (Ok (Some shared)) new
+  recalls_some revision old new snapshot shared same damaged kept found is = record {
+    snapshot = λ commands all.
+        subst (IsSnapshotOf revision (as_of revision commands)) (sym is) (kept_found commands old.kept.snapshots.entries revision snapshot all.snapshots (sym found)).snapshot;
+    none = λ e. absurd (some_not_none shared e);
     same = same;
     damaged = damaged;
     kept = kept;
@@ -323,10 +329,10 @@ module _ {L : Type 0} (g : Ghosts L) where
     kept = stays_kept commands old.kept new.kept kept records.kept;
   }
 
-  pub not_made : (revision : ℕ) (sought : FeatureRequest) (old new : Records L) (fault : RegisterFault) (given : Result Response RegisterFault) → given ≡ Err fault
-      → MakesSnapshot g revision (revision_listed g old revision) old (Err fault) new → Finds g revision sought old given new
-  not_made revision sought old new fault given e m = subst (λ (given : Result Response RegisterFault). Finds g revision sought old given new) (sym e) (record {
-    response = λ counts. tt;
+  pub not_made : (revision : ℕ) (old new : Records L) (fault : RegisterFault) (given : Result RevisionFeatures RegisterFault) → given ≡ Err fault
+      → MakesSnapshot g revision (revision_listed g old revision) old (Err fault) new → Finds g revision old given new
+  not_made revision old new fault given e m = subst (λ (given : Result RevisionFeatures RegisterFault). Finds g revision old given new) (sym e) (record {
+    snapshot = λ counts. tt;
     cause = m.cause;
     reads = record {
       store = m.reads.store;
@@ -338,23 +344,22 @@ module _ {L : Type 0} (g : Ghosts L) where
     };
   })
 
-  pub not_looked : (revision : ℕ) (sought : FeatureRequest) (old new : Records L) (snapshot : RevisionFeatures) (fault : RegisterFault) (given : Result Response RegisterFault) → given ≡ Err fault → fault ≡ Memory
-      → MakesSnapshot g revision (revision_listed g old revision) old (Ok snapshot) new → Finds g revision sought old given new
-  not_looked revision sought old new snapshot fault given e m made = subst (λ (given : Result Response RegisterFault). Finds g revision sought old given new) (sym e) (record {
-    response = λ counts. tt;
+  pub not_looked : (revision : ℕ) (old new : Records L) (snapshot : RevisionFeatures) (fault : RegisterFault) (given : Result RevisionFeatures RegisterFault) → given ≡ Err fault → fault ≡ Memory
+      → MakesSnapshot g revision (revision_listed g old revision) old (Ok snapshot) new → Finds g revision old given new
+  not_looked revision old new snapshot fault given e m made = subst (λ (given : Result RevisionFeatures RegisterFault). Finds g revision old given new) (sym e) (record {
+    snapshot = λ counts. tt;
     cause = λ counts commands records. inl m;
     reads = ran_out (revision_listed g old revision) old new fault m made.reads.kept made.reads.clean;
   })
 
-  pub looked : (revision : ℕ) (sought : FeatureRequest) (old mid new : Records L) (snapshot : RevisionFeatures) (response : Response)
+  pub looked : (revision : ℕ) (old mid new : Records L) (snapshot shared : RevisionFeatures)
       → MakesSnapshot g revision (revision_listed g old revision) old (Ok snapshot) mid
-      → ledger_in new ≡ ledger_in mid → StaysWith snapshot mid.kept new.kept → Exists revision old
-      → content_in_response response ≡ content_in sought snapshot → Finds g revision sought old (Ok response) new
-  looked revision sought old mid new snapshot response made same stays exists is =
+      → ledger_in new ≡ ledger_in mid → StaysWith shared mid.kept new.kept → shared ≡ snapshot → Exists revision old → Finds g revision old (Ok snapshot) new
+  looked revision old mid new snapshot shared made same stays is exists =
       let counted : g.counts (ledger_in new) → g.counts (ledger_in mid) = subst g.counts same in
+      let with_it : StaysWith snapshot mid.kept new.kept = subst (λ s. StaysWith s mid.kept new.kept) is stays in
       record {
-        response = λ counts commands records within.
-            is ∙ content_at sought revision (as_of revision commands) snapshot (made.snapshot (counted counts) commands records within);
+        snapshot = λ counts. made.snapshot (counted counts);
         cause = λ counts. tt;
         reads = record {
           store = λ counts. tt;
@@ -365,7 +370,7 @@ module _ {L : Type 0} (g : Ghosts L) where
               let h = exists commands records.ledger in
               record {
                 ledger = subst (λ (l : L). g.stands_for l commands) (sym same) between.ledger;
-                kept = kept_with commands snapshot mid.kept new.kept stays
+                kept = kept_with commands snapshot mid.kept new.kept with_it
                     (subst (λ n. IsCached commands (n, snapshot)) (sym made.number) (record { exists = h; snapshot = made.snapshot (counted counts) commands records h })) between.kept;
               };
           unchanged = λ counts. tt;
@@ -373,9 +378,9 @@ module _ {L : Type 0} (g : Ghosts L) where
         };
       }
 
-  found_so : {E : Type 0} → RemainsHere → (revision : ℕ) (sought : FeatureRequest) (old new : Records L) (response : Response) → Recalls g {E = E} revision sought old (Ok (Some response)) new → Finds g revision sought old (Ok response) new
-  found_so here revision sought old new response r = record {
-    response = λ counts commands records within. r.response commands records.kept;
+  found_so : {E : Type 0} → RemainsHere → (revision : ℕ) (old new : Records L) (snapshot : RevisionFeatures) → Recalls g {E = E} revision old (Ok (Some snapshot)) new → Finds g revision old (Ok snapshot) new
+  found_so here revision old new snapshot r = record {
+    snapshot = λ counts commands records within. r.snapshot commands records.kept;
     cause = λ counts. tt;
     reads = record {
       store = λ counts. tt;
@@ -387,16 +392,16 @@ module _ {L : Type 0} (g : Ghosts L) where
     };
   }
 
-  pub found_kept : {E : Type 0} → RemainsHere → (revision : ℕ) (sought : FeatureRequest) (old new : Records L) (response : Response) (found : Option Response) (given : Result (Option Response) E) → given ≡ Ok found → found ≡ Some response
-      → Recalls g {E = E} revision sought old given new → Finds g revision sought old (Ok response) new
-  found_kept {E} here revision sought old new response found given e f recalled =
-      let is : given ≡ Ok (Some response) = e ∙ ap Ok f in
-      found_so here revision sought old new response (subst (λ (r : Result (Option Response) E). Recalls g {E = E} revision sought old r new) is recalled)
+  pub found_kept : {E : Type 0} → RemainsHere → (revision : ℕ) (old new : Records L) (snapshot : RevisionFeatures) (found : Option RevisionFeatures) (given : Result (Option RevisionFeatures) E) → given ≡ Ok found → found ≡ Some snapshot
+      → Recalls g {E = E} revision old given new → Finds g revision old (Ok snapshot) new
+  found_kept {E} here revision old new snapshot found given e f recalled =
+      let is : given ≡ Ok (Some snapshot) = e ∙ ap Ok f in
+      found_so here revision old new snapshot (subst (λ (r : Result (Option RevisionFeatures) E). Recalls g {E = E} revision old r new) is recalled)
 
-  pub found_nothing : {E : Type 0} (revision : ℕ) (sought : FeatureRequest) (old new : Records L) (result : Result (Option Response) E) (fault : RegisterFault) (given : Result Response RegisterFault) → given ≡ Err fault → fault ≡ Memory
-      → Recalls g revision sought old result new → Finds g revision sought old given new
-  found_nothing revision sought old new result fault given e m r = subst (λ (given : Result Response RegisterFault). Finds g revision sought old given new) (sym e) (record {
-    response = λ counts. tt;
+  pub found_nothing : {E : Type 0} (revision : ℕ) (old new : Records L) (result : Result (Option RevisionFeatures) E) (fault : RegisterFault) (given : Result RevisionFeatures RegisterFault) → given ≡ Err fault → fault ≡ Memory
+      → Recalls g revision old result new → Finds g revision old given new
+  found_nothing revision old new result fault given e m r = subst (λ (given : Result RevisionFeatures RegisterFault). Finds g revision old given new) (sym e) (record {
+    snapshot = λ counts. tt;
     cause = λ counts commands records. inl m;
     reads = ran_out (revision_listed g old revision) old new fault m (λ counts. moved old new r.same r.kept) (subst g.counts r.same);
   })
@@ -405,14 +410,14 @@ module _ {L : Type 0} (g : Ghosts L) where
   abbrev listed_of : ℕ → L × Bool → ℕ
   listed_of revision x = if x.1 then revision else g.newest x.0
 
-  unmoved : {E : Type 0} (revision : ℕ) (sought : FeatureRequest) (old mid : Records L) (was : Result (Option Response) E) → Recalls g revision sought old was mid
+  unmoved : {E : Type 0} (revision : ℕ) (old mid : Records L) (was : Result (Option RevisionFeatures) E) → Recalls g revision old was mid
       → ◌≡◌ {A = L × Bool} (ledger_in mid, mid.is_damaged) (ledger_in old, old.is_damaged)
-  unmoved revision sought old mid was r = ap₂ (λ l b. (l, b)) r.same r.damaged
+  unmoved revision old mid was r = ap₂ (λ l b. (l, b)) r.same r.damaged
 
-  pub found_read : {E : Type 0} (revision : ℕ) (sought : FeatureRequest) (old mid new : Records L) (was : Result (Option Response) E) (result : Result Response RegisterFault)
-      → Recalls g revision sought old was mid → Finds g revision sought mid result new → Finds g revision sought old result new
-  found_read revision sought old mid new was (Ok response) r f = record {
-    response = λ counts commands records. f.response counts commands (moved old mid r.same r.kept commands records);
+  pub found_read : {E : Type 0} (revision : ℕ) (old mid new : Records L) (was : Result (Option RevisionFeatures) E) (result : Result RevisionFeatures RegisterFault)
+      → Recalls g revision old was mid → Finds g revision mid result new → Finds g revision old result new
+  found_read revision old mid new was (Ok snapshot) r f = record {
+    snapshot = λ counts commands records. f.snapshot counts commands (moved old mid r.same r.kept commands records);
     cause = λ counts. tt;
     reads = record {
       store = λ counts. tt;
@@ -423,14 +428,14 @@ module _ {L : Type 0} (g : Ghosts L) where
       clean = λ counts. subst g.counts r.same (f.reads.clean counts);
     };
   }
-  found_read revision sought old mid new was (Err fault) r f = record {
-    response = λ counts. tt;
+  found_read revision old mid new was (Err fault) r f = record {
+    snapshot = λ counts. tt;
     cause = λ counts commands records. f.cause counts commands (moved old mid r.same r.kept commands records);
     reads = record {
-      store = λ counts s. subst (λ (x : L × Bool). g.refuses_listing x.0 (ledger_in new) (listed_of revision x)) (unmoved revision sought old mid was r) (f.reads.store counts s);
+      store = λ counts s. subst (λ (x : L × Bool). g.refuses_listing x.0 (ledger_in new) (listed_of revision x)) (unmoved revision old mid was r) (f.reads.store counts s);
       still = λ counts. tt;
       kept = λ counts. tt;
-      damaged = subst (λ (x : L × Bool). NamesDamage (g.damaged_for_listing x.0 (ledger_in new) (listed_of revision x)) fault) (unmoved revision sought old mid was r) f.reads.damaged;
+      damaged = subst (λ (x : L × Bool). NamesDamage (g.damaged_for_listing x.0 (ledger_in new) (listed_of revision x)) fault) (unmoved revision old mid was r) f.reads.damaged;
       unchanged = λ counts commands records.
           subst (λ (l : L). AreRecordsOf g new commands ⊎ IsShut g.lives g.fails l fault (ledger_in new)) r.same
           (f.reads.unchanged counts commands (moved old mid r.same r.kept commands records));
@@ -438,16 +443,61 @@ module _ {L : Type 0} (g : Ghosts L) where
     };
   }
 
+  -- ---- what is told
+
+  found_content : (sought : FeatureRequest) (commands : List Command) (found : Option RevisionFeatures) → IsFoundFor g sought commands found → content_found sought found ≡ content_of sought commands
+  found_content sought commands None above =
+      let n = length commands in
+      let r = revision_sought sought n in
+      cond_below n r (refusal status.BadRequest (codes "revision")) (content_in sought (snapshot_at r commands)) above
+  found_content sought commands (Some snapshot) is =
+      let n = length commands in
+      let r = revision_sought sought n in
+      cond_above n r (refusal status.BadRequest (codes "revision")) (content_in sought (snapshot_at r commands)) (content_in sought snapshot) is.0
+      (content_at sought r (as_of r commands) snapshot is.1)
+
+  -- what was read for the snapshot is read for what is told
+  told_reads : (sought : FeatureRequest) (old new : Records L) (found : Option RevisionFeatures) (told : Located) → ReadsListed g (revision_of g old sought) old (Ok found) new → ReadsListed g (revision_of g old sought) old (Ok told) new
+  told_reads sought old new found told = as_read (revision_of g old sought) (revision_of g old sought) old new found told
+
+  pub told_sought : (sought : FeatureRequest) (old new : Records L) (found : Option RevisionFeatures) (told : Located) → Seeks g sought old (Ok found) new → content_located told ≡ content_found sought found
+      → TellsSought g sought old (Ok told) new
+  told_sought sought old new found told s is = record {
+    content = λ counts commands records. is ∙ found_content sought commands found (s.found counts commands records);
+    cause = λ counts. tt;
+    reads = told_reads sought old new found told s.reads;
+  }
+
+  pub not_told : (sought : FeatureRequest) (old new : Records L) (found : Option RevisionFeatures) (fault : RegisterFault) (given : Result Located RegisterFault) → given ≡ Err fault → fault ≡ Memory
+      → Seeks g sought old (Ok found) new → TellsSought g sought old given new
+  not_told sought old new found fault given e m s = subst (λ (given : Result Located RegisterFault). TellsSought g sought old given new) (sym e) (record {
+    content = λ counts. tt;
+    cause = λ counts commands records. inl m;
+    reads = ran_out (revision_of g old sought) old new fault m s.reads.kept s.reads.clean;
+  })
+
+  pub not_sought : (sought : FeatureRequest) (old new : Records L) (fault : RegisterFault) → Seeks g sought old (Err fault) new → TellsSought g sought old (Err fault) new
+  not_sought sought old new fault s = record {
+    content = λ counts. tt;
+    cause = s.cause;
+    reads = record {
+      store = s.reads.store;
+      damaged = s.reads.damaged;
+      still = λ counts. tt;
+      kept = λ counts. tt;
+      unchanged = s.reads.unchanged;
+      clean = s.reads.clean;
+    };
+  }
+
   -- ---- what is answered
 
-  -- what the trait says of an answer
   abbrev IsAnswered : Server L → Request → Result Answer RegisterFault → Server L → Type 0
-  IsAnswered old request result new =
-      Answered (IsServerOf g) (λ (s : Server L). g.counts (ledger_of s)) (λ (s : Server L). g.lives (ledger_of s)) (λ (o n : Server L). g.fails (ledger_of o) (ledger_of n)) IsReply ends_after Asks (FailsToAnswer g.fails_to_list) (RefusesToAnswer g) (DamagedForAnswer g) (λ (o n : Server L). g.remains (ledger_of o) (ledger_of n)) old request result new
+  IsAnswered old request result new = IsAnsweredAs g (λ (answer : Answer). answer.bytes.items) (λ (answer : Answer). answer.ends) old request result new
 
-  pub answered_err : (old new : Server L) (request : Request) (wanted : ParsedRequest) (fault : RegisterFault) (given : Result Answer RegisterFault) → given ≡ Err fault → IsParsedRequest (requested request) wanted
-      → Tells g wanted old.records (Err fault) new.records → IsAnswered old request given new
-  answered_err old new request wanted fault given e is t = subst (λ (given : Result Answer RegisterFault). IsAnswered old request given new) (sym e) (record {
+  pub begun_err : (old new : Server L) (request : Request) (wanted : ParsedRequest) (fault : RegisterFault) (given : Result (Begun PageWork) RegisterFault) → given ≡ Err fault → IsParsedRequest (requested request) wanted
+      → Tells g wanted old.records (Err fault) new.records → IsBegun g old request given new
+  begun_err old new request wanted fault given e is t = subst (λ (given : Result (Begun PageWork) RegisterFault). IsBegun g old request given new) (sym e) (record {
     replied = λ counts. tt;
     plain = tt;
     ends = tt;
@@ -467,11 +517,34 @@ module _ {L : Type 0} (g : Ghosts L) where
     clean = t.reads.clean;
   })
 
-  pub answered_ok : (old new : Server L) (request : Request) (wanted : ParsedRequest) (response : Response) (answer : Answer) → IsParsedRequest (requested request) wanted
-      → Tells g wanted old.records (Ok response) new.records → answer.bytes.items ≡ reply_text response.status answer.ends (string_bytes response.body) → answer.ends ≡ ends_after request
-      → IsAnswered old request (Ok answer) new
-  answered_ok old new request wanted response answer is t bytes ends = record {
-    replied = λ counts commands stands. replied commands (t.response counts commands stands);
+  -- there was no memory, where nothing changed but what is kept
+  out_of_memory : {A : Type 0} (bytes_in : A → List ℕ) (ends_in : A → Bool) (old new : Server L) (request : Request) (fault : RegisterFault) (given : Result A RegisterFault) → given ≡ Err fault → fault ≡ Memory
+      → (g.counts (ledger_of new) → (commands : List Command) → IsServerOf g old commands → IsServerOf g new commands)
+      → (g.counts (ledger_of new) → g.counts (ledger_of old)) → IsAnsweredAs g bytes_in ends_in old request given new
+  out_of_memory {A} bytes_in ends_in old new request fault given e m kept clean = subst (λ (given : Result A RegisterFault). IsAnsweredAs g bytes_in ends_in old request given new) (sym e) (record {
+    replied = λ counts. tt;
+    plain = tt;
+    ends = tt;
+    cause = λ counts commands stands. inl m;
+    asking = inl m;
+    store = λ counts s. absurd (not_store fault m s);
+    still = λ counts. tt;
+    kept = λ counts. tt;
+    damaged = memory_names_none (DamagedForAnswer g old new request) fault m;
+    unchanged = λ counts commands records. inl (kept counts commands records);
+    clean = clean;
+  })
+
+  -- there was no memory for what is told
+  pub not_begun : (old new : Server L) (request : Request) (wanted : ParsedRequest) (what : Located) (fault : RegisterFault) (given : Result (Begun PageWork) RegisterFault) → given ≡ Err fault → fault ≡ Memory
+      → Tells g wanted old.records (Ok what) new.records → IsBegun g old request given new
+  not_begun old new request wanted what fault given e m t = out_of_memory (told_begun reply_owed) ends_begun old new request fault given e m t.reads.kept t.reads.clean
+
+  pub begun_ok : (old new : Server L) (request : Request) (wanted : ParsedRequest) (what : Located) (begun : Begun PageWork) → IsParsedRequest (requested request) wanted
+      → Tells g wanted old.records (Ok what) new.records → told_begun reply_owed begun ≡ reply_text (content_located what).0 begun.ends (content_located what).1 → begun.ends ≡ ends_after request
+      → IsBegun g old request (Ok begun) new
+  begun_ok old new request wanted what begun is t bytes ends = record {
+    replied = λ counts commands stands. replied commands (t.content counts commands stands);
     plain = elim t.plain [
       | inl sought ↦ inl (wanted, is, sought)
       | inr same ↦ inr (λ commands. replied commands (same commands))
@@ -487,5 +560,42 @@ module _ {L : Type 0} (g : Ghosts L) where
     clean = t.reads.clean;
   }
     where
-      replied : (commands : List Command) → content_in_response response ≡ content_requested wanted commands → IsReply commands request answer.bytes.items
-      replied commands same = (wanted, is, bytes ∙ ap (λ (b : Bool). reply_text response.status b (string_bytes response.body)) ends ∙ ap (reply_of request) same)
+      replied : (commands : List Command) → content_located what ≡ content_requested wanted commands → IsReply commands request (told_begun reply_owed begun)
+      replied commands same = (wanted, is, bytes ∙ ap (λ (b : Bool). reply_text (content_located what).0 b (content_located what).1) ends ∙ ap (reply_of request) same)
+
+  -- ---- an answer that was begun, and made at once
+
+  pub unanswered : (old new : Server L) (request : Request) (fault : RegisterFault) (given : Result Answer RegisterFault) → given ≡ Err fault → IsBegun g old request (Err fault) new → IsAnswered old request given new
+  unanswered old new request fault given e b = subst (λ (given : Result Answer RegisterFault). IsAnswered old request given new) (sym e) (record {
+    replied = λ counts. tt;
+    plain = tt;
+    ends = tt;
+    cause = b.cause;
+    asking = b.asking;
+    store = b.store;
+    still = λ counts. tt;
+    kept = λ counts. tt;
+    damaged = b.damaged;
+    unchanged = b.unchanged;
+    clean = b.clean;
+  })
+
+  pub unfinished : (old new : Server L) (request : Request) (begun : Begun PageWork) (fault : RegisterFault) (given : Result Answer RegisterFault) → given ≡ Err fault → fault ≡ Memory
+      → IsBegun g old request (Ok begun) new → IsAnswered old request given new
+  unfinished old new request begun fault given e m b = out_of_memory (λ (answer : Answer). answer.bytes.items) (λ (answer : Answer). answer.ends) old new request fault given e m b.kept b.clean
+
+  pub finished : (old new : Server L) (request : Request) (begun : Begun PageWork) (answer : Answer) → IsBegun g old request (Ok begun) new
+      → answer.bytes.items ≡ told_begun reply_owed begun → answer.ends ≡ begun.ends → IsAnswered old request (Ok answer) new
+  finished old new request begun answer b bytes ends = record {
+    replied = λ counts commands stands. subst (IsReply commands request) (sym bytes) (b.replied counts commands stands);
+    plain = subst (IsPlainReply Asks IsReply request) (sym bytes) b.plain;
+    ends = ends ∙ b.ends;
+    cause = λ counts. tt;
+    asking = tt;
+    store = λ counts. tt;
+    still = b.still;
+    kept = b.kept;
+    damaged = tt;
+    unchanged = λ counts. tt;
+    clean = b.clean;
+  }

@@ -21,6 +21,8 @@ use Rattle.cad_request.specs.declared.request.ParsedRequest.TheVariants as parse
 use Rattle.cad_request.specs.declared.response.Response.{Response}
 use Rattle.cad_request.specs.declared.feature_request.FeatureRequest.{FeatureRequest}
 use Rattle.cad_request.specs.declared.feature_request.FeatureRequest.TheVariants.{Page, Feature}
+use Rattle.cad_server.specs.declared.located.Located.{Located}
+use Rattle.cad_server.specs.declared.located.Located.TheVariants as located
 
 -- the status of a reply, and its body
 abbrev pub Content : Type 0
@@ -58,6 +60,16 @@ abbrev pub content_in : FeatureRequest → RevisionFeatures → Content
 content_in (Page ask) snapshot = (status.Ok, compact_text (page_data ask snapshot))
 content_in (Feature collection identifier) snapshot =
     feature_content collection (feature_with (numbers_of identifier) (features_at snapshot collection))
+
+-- the content of the answer: that of a response, or of the page that is to be made of a snapshot
+abbrev pub content_located : Located → Content
+content_located (located.Response response) = content_in_response response
+content_located (located.Page ask snapshot) = content_in (Page ask) snapshot
+
+-- what is sought, in the snapshot that was found for it; without one, its revision does not exist
+abbrev pub content_found : FeatureRequest → Option RevisionFeatures → Content
+content_found sought None = refusal status.BadRequest (codes "revision")
+content_found sought (Some snapshot) = content_in sought snapshot
 
 -- the revision that is asked for, or the newest
 abbrev pub revision_sought : FeatureRequest → ℕ → ℕ

@@ -4,5 +4,7 @@ pub mod Servers
 pub mod Refusing
 pub mod Laws
 pub mod Keeping
+pub mod Stages
+pub mod Works
 pub mod Chaining
 pub mod inner

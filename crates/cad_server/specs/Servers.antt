@@ -1,5 +1,5 @@
 -- The parts of a server that clauses use, and what its calls do (own profile).
-use Rattle.std.specs.Prelude.{◌≡◌, ◌≤◌, ◌⊎◌, ℕ, ℤ, Bool, true, false, if◌then◌else◌, List, length, Vec, Option, None, IfSome, Result, IfOk, IfErr, OnOk}
+use Rattle.std.specs.Prelude.{◌≡◌, ◌≤◌, ◌<◌, ◌⊎◌, ℕ, ℤ, Bool, true, false, if◌then◌else◌, List, length, Vec, Option, None, Some, IfSome, Result, IfOk, IfErr, OnOk}
 use Rattle.std.specs.Global.{Global}
 use Rattle.cad_versions.specs.AsOf.{as_of}
 use Rattle.cad_versions.specs.Entries.{Entry}
@@ -16,11 +16,11 @@ use Rattle.cad_resource.specs.Requested.{requested}
 use Rattle.cad_request.specs.ParsedRequests.{IsParsedRequest}
 use Rattle.cad_request.specs.declared.request.ParsedRequest.{ParsedRequest}
 use Rattle.cad_request.specs.declared.request.ParsedRequest.TheVariants as parsed
-use Rattle.cad_request.specs.declared.response.Response.{Response}
+use Rattle.cad_server.specs.declared.located.Located.{Located}
 use Rattle.cad_server.specs.declared.records.Records.{Records}
 use Rattle.cad_server.specs.declared.server.Server.{Server}
 use Rattle.cad_request.specs.declared.feature_request.FeatureRequest.{FeatureRequest}
-use Rattle.cad_server.specs.Contents.{content_in_response, content_in, content_of, content_requested, revision_sought, snapshot_at}
+use Rattle.cad_server.specs.Contents.{content_of, content_requested, content_located, revision_sought}
 use Rattle.cad_server.specs.Keeping.{KeepsOf, StaysCached, cached_at, rows_in}
 use Rattle.cad_server.specs.Replies.{AsksForFeatures, FailsFor, FailsToFind, FailsToTell}
 
@@ -138,31 +138,44 @@ module _ {L : Type 0} (g : Ghosts L) where
     pub cause : g.counts (ledger_in new) → IfErr result (λ fault. (commands : List Command) → AreRecordsOf old commands → (fault ≡ Memory) ⊎ FailsFor g.fails_to_list revision commands fault)
     pub reads : ReadsListed listed old result new
 
-  -- the response is what is sought, from what is kept of the revision. A response is missing only if nothing of the revision is kept. Only
-  -- the order of what is kept changes.
-  pub record Recalls {E : Type 0} (revision : ℕ) (sought : FeatureRequest) (old : Records L) (result : Result (Option Response) E) (new : Records L) : Type 0 where
-    pub response : IfOk result (λ found. IfSome found (λ response. (commands : List Command) → KeepsOf commands old.kept → content_in_response response ≡ content_in sought (snapshot_at revision commands)))
+  -- the snapshot is the one that is kept of the revision. It is missing only if nothing of the revision is kept. Only the order of what is
+  -- kept changes.
+  pub record Recalls {E : Type 0} (revision : ℕ) (old : Records L) (result : Result (Option RevisionFeatures) E) (new : Records L) : Type 0 where
+    pub snapshot : IfOk result (λ found. IfSome found (λ snapshot. (commands : List Command) → KeepsOf commands old.kept → IsSnapshotOf revision (as_of revision commands) snapshot))
     pub none : IfOk result (λ found. found ≡ None → cached_at revision old.kept ≡ None)
     pub same : ledger_in new ≡ ledger_in old
     pub damaged : new.is_damaged ≡ old.is_damaged
     pub kept : StaysCached old.kept new.kept
 
-  -- the response is what is sought at an existing revision
-  pub record Finds (revision : ℕ) (sought : FeatureRequest) (old : Records L) (result : Result Response RegisterFault) (new : Records L) : Type 0 where
-    pub response : g.counts (ledger_in new) → IfOk result (λ response. (commands : List Command) → AreRecordsOf old commands → revision ≤ length commands → content_in_response response ≡ content_in sought (snapshot_at revision commands))
+  -- the snapshot is that of an existing revision
+  pub record Finds (revision : ℕ) (old : Records L) (result : Result RevisionFeatures RegisterFault) (new : Records L) : Type 0 where
+    pub snapshot : g.counts (ledger_in new) → IfOk result (λ snapshot. (commands : List Command) → AreRecordsOf old commands → revision ≤ length commands → IsSnapshotOf revision (as_of revision commands) snapshot)
     pub cause : g.counts (ledger_in new) → IfErr result (λ fault. (commands : List Command) → AreRecordsOf old commands → (fault ≡ Memory) ⊎ FailsFor g.fails_to_list revision commands fault)
     pub reads : ReadsListed (revision_listed old revision) old result new
 
-  -- the response is what is sought, at the revision that is asked for or the newest
-  pub record Seeks (sought : FeatureRequest) (old : Records L) (result : Result Response RegisterFault) (new : Records L) : Type 0 where
-    pub response : g.counts (ledger_in new) → IfOk result (λ response. (commands : List Command) → AreRecordsOf old commands → content_in_response response ≡ content_of sought commands)
+  -- with these commands in force, the snapshot is that of the revision that is asked for, or of the newest; or the revision does not exist
+  abbrev pub IsFoundFor : FeatureRequest → List Command → Option RevisionFeatures → Type 0
+  IsFoundFor sought commands None = length commands < revision_sought sought (length commands)
+  IsFoundFor sought commands (Some snapshot) =
+      (revision_sought sought (length commands) ≤ length commands)
+      × IsSnapshotOf (revision_sought sought (length commands)) (as_of (revision_sought sought (length commands)) commands) snapshot
+
+  -- it is found for what is sought
+  pub record Seeks (sought : FeatureRequest) (old : Records L) (result : Result (Option RevisionFeatures) RegisterFault) (new : Records L) : Type 0 where
+    pub found : g.counts (ledger_in new) → IfOk result (λ found. (commands : List Command) → AreRecordsOf old commands → IsFoundFor sought commands found)
     pub cause : g.counts (ledger_in new) → IfErr result (λ fault. (commands : List Command) → AreRecordsOf old commands → (fault ≡ Memory) ⊎ FailsToFind g.fails_to_list commands sought fault)
     pub reads : ReadsListed (revision_of old sought) old result new
 
-  -- the response is what is wanted; if no features are wanted, it is so with any commands
-  pub record Tells (wanted : ParsedRequest) (old : Records L) (result : Result Response RegisterFault) (new : Records L) : Type 0 where
-    pub response : g.counts (ledger_in new) → IfOk result (λ response. (commands : List Command) → AreRecordsOf old commands → content_in_response response ≡ content_requested wanted commands)
+  -- the answer has what is sought, at the revision that is asked for or the newest
+  pub record TellsSought (sought : FeatureRequest) (old : Records L) (result : Result Located RegisterFault) (new : Records L) : Type 0 where
+    pub content : g.counts (ledger_in new) → IfOk result (λ told. (commands : List Command) → AreRecordsOf old commands → content_located told ≡ content_of sought commands)
+    pub cause : g.counts (ledger_in new) → IfErr result (λ fault. (commands : List Command) → AreRecordsOf old commands → (fault ≡ Memory) ⊎ FailsToFind g.fails_to_list commands sought fault)
+    pub reads : ReadsListed (revision_of old sought) old result new
+
+  -- the answer has what is wanted; if no features are wanted, it is so with any commands
+  pub record Tells (wanted : ParsedRequest) (old : Records L) (result : Result Located RegisterFault) (new : Records L) : Type 0 where
+    pub content : g.counts (ledger_in new) → IfOk result (λ told. (commands : List Command) → AreRecordsOf old commands → content_located told ≡ content_requested wanted commands)
     pub cause : g.counts (ledger_in new) → IfErr result (λ fault. (commands : List Command) → AreRecordsOf old commands → (fault ≡ Memory) ⊎ FailsToTell g.fails_to_list commands wanted fault)
-    pub plain : IfOk result (λ response. AsksForFeatures wanted ⊎ ((commands : List Command) → content_in_response response ≡ content_requested wanted commands))
+    pub plain : IfOk result (λ told. AsksForFeatures wanted ⊎ ((commands : List Command) → content_located told ≡ content_requested wanted commands))
     pub asking : IfErr result (λ fault. (fault ≡ Memory) ⊎ AsksForFeatures wanted)
     pub reads : Reads (RefusesToTell wanted old new) (DamagedForTelling wanted old new) old result new

@@ -2,3 +2,4 @@
 pub mod Rooms
 pub mod Journals
 pub mod Counts
+pub mod Beginnings

@@ -2,6 +2,7 @@
 //!
 //! - [`Server`]: answers requests over any ledger, and enters the land office's commands into it. A desk of connections uses it
 //!   (`cad_desk`), and so does serving over a reader and a writer (`cad_serve`)
+//! - [`PageWork`]: the work that is left for the reply with a page, which is made in pieces; [`WorkMeter`] counts the features that are tested
 //! - `laws`: that a request has one reply
 //!
 //! The features at every revision are read from the ledger once, as rows, and are kept. A command adds to them what it changes. So after the
@@ -20,13 +21,22 @@
 //! `{"features":[],"links":[{"href":"/collections/parcels/items","rel":"self","type":"application/json"}],"numberReturned":0,"revision":0,"type":"FeatureCollection"}`.
 #![tactic(auto)]
 
+mod beginning;
 mod chaining;
 mod keeping;
 pub mod laws;
+mod located;
+mod page_work;
 mod records;
+mod requested_page;
 mod server;
 mod snapshot_cache;
 mod sought;
+mod stage;
 mod totals;
+mod work_meter;
+mod working;
 
+pub use page_work::PageWork;
 pub use server::Server;
+pub use work_meter::WorkMeter;

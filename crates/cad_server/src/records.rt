@@ -1,18 +1,13 @@
 //! A ledger, and the features of its revisions.
 
-ghost use Rattle.std.specs.Prelude.{◌≡◌, codes, IfOk};
-ghost use Rattle.cad_head.specs.declared.status.Status.TheVariants.{BadRequest};
-ghost use Rattle.cad_server.specs.Contents.{content_in_response, refusal};
-
 use crate::chaining::ledger_chain;
+use crate::located::Located;
 use crate::snapshot_cache::SnapshotCache;
-use crate::sought::{response_in, revision_of};
+use crate::sought::{located_of, revision_of};
 use crate::totals::{Totals, highest_in};
 use cad_changes::histories_after;
-use cad_head::Status;
 use cad_history::{Histories, Snapshot};
-use cad_json::word_body;
-use cad_request::{FeatureRequest, ParsedRequest, Response};
+use cad_request::{FeatureRequest, ParsedRequest};
 use cad_stream::Summary;
 use cad_versions::{Command, HistoryLedger, JournalLedger, Ledger, RegisterFault, StoredVersion};
 use std::alloc::{AllocError, Global};
@@ -156,7 +151,7 @@ impl<L: HistoryLedger> Records<L> {
     ghost use Rattle.cad_versions.specs.AsOf.{as_of};
     ghost use Rattle.cad_history.specs.Snapshots.{IsSnapshotOf};
     ghost use Rattle.cad_server.specs.Keeping.{KeepsOf, cached_at, rows_in};
-    ghost use Rattle.cad_server.specs.Servers.{is_damage, ledger_in, revision_listed, AreRecordsOf, ListsRows, MakesSnapshot, Prepares, Recalls, Finds, Seeks, Tells};
+    ghost use Rattle.cad_server.specs.Servers.{is_damage, ledger_in, revision_listed, AreRecordsOf, ListsRows, MakesSnapshot, Prepares, Recalls, Finds, Seeks, TellsSought, Tells};
 
     /// The versions that the ledger stores. Notes whether one of their rows is damaged.
     fn stored_versions(&mut self) -> Result<Vec<StoredVersion>, RegisterFault>
@@ -241,73 +236,77 @@ impl<L: HistoryLedger> Records<L> {
         self.read_snapshot(revision)
     }
 
-    /// What is sought, from the snapshot of the revision, if it is kept.
-    fn recall(
-        &mut self,
-        revision: u64,
-        sought: &FeatureRequest,
-    ) -> Result<Option<Response>, AllocError>
-        ensures { Recalls L.Ledger revision sought.now self.old result self.new }
+    /// The snapshot of the revision, if it is kept.
+    fn recall(&mut self, revision: u64) -> Result<Option<Snapshot>, AllocError>
+        ensures { Recalls L.Ledger revision self.old result self.new }
     {
         let Some(snapshot) = self.kept.at(revision) else {
             return Ok(None);
         };
-        let response = response_in(self.alloc, sought, snapshot)?;
+        let shared = snapshot.share()?;
         self.kept.touch(revision);
-        Ok(Some(response))
+        Ok(Some(shared))
     }
 
-    /// What is sought, from a snapshot that is made and kept, if there is memory.
-    fn look(&mut self, revision: u64, sought: &FeatureRequest) -> Result<Response, RegisterFault>
+    /// A snapshot of an existing revision, which is made, and kept from then on, if there is memory.
+    fn look(&mut self, revision: u64) -> Result<Snapshot, RegisterFault>
         requires { (commands : List CommandOf) → L.Ledger.stands_for (ledger_in self.old) commands → revision ≤ length commands }
-        ensures found { Finds L.Ledger revision sought.now self.old result self.new }
+        ensures found { Finds L.Ledger revision self.old result self.new }
         ensures unasked { ¬ (rows_in self.old.kept ≡ None) → ledger_in self.new ≡ ledger_in self.old }
     {
         let snapshot = self.make_snapshot(revision)?;
-        let response = response_in(self.alloc, sought, &snapshot)?;
-        self.kept.add(snapshot);
-        Ok(response)
+        let shared = snapshot.share()?;
+        self.kept.add(shared);
+        Ok(snapshot)
     }
 
-    /// What is sought at an existing revision. The ledger is read only if nothing was read since the start, memory ran out, or a row is damaged.
-    fn find(&mut self, revision: u64, sought: &FeatureRequest) -> Result<Response, RegisterFault>
+    /// A snapshot of an existing revision. The ledger is read only if nothing was read since the start, memory ran out, or a row is damaged.
+    fn find(&mut self, revision: u64) -> Result<Snapshot, RegisterFault>
         requires { (commands : List CommandOf) → L.Ledger.stands_for (ledger_in self.old) commands → revision ≤ length commands }
-        ensures found { Finds L.Ledger revision sought.now self.old result self.new }
+        ensures found { Finds L.Ledger revision self.old result self.new }
         ensures unasked { ¬ (rows_in self.old.kept ≡ None) → ledger_in self.new ≡ ledger_in self.old }
     {
-        match self.recall(revision, sought)? {
-            Some(response) => Ok(response),
-            None => self.look(revision, sought),
+        match self.recall(revision)? {
+            Some(snapshot) => Ok(snapshot),
+            None => self.look(revision),
         }
     }
 
-    /// What is sought at the revision that is asked for, or the newest.
-    fn seek(&mut self, sought: &FeatureRequest) -> Result<Response, RegisterFault>
+    /// A snapshot of the revision that is asked for, or of the newest; `None` if the revision does not exist.
+    fn seek(&mut self, sought: &FeatureRequest) -> Result<Option<Snapshot>, RegisterFault>
         ensures { Seeks L.Ledger sought.now self.old result self.new }
     {
         let newest = self.ledger.revision();
         let revision = revision_of(sought, newest);
         if newest < revision {
-            return Ok(unknown_revision(self.alloc)?);
+            return Ok(None);
         }
-        self.find(revision, sought)
+        let snapshot = self.find(revision)?;
+        Ok(Some(snapshot))
     }
 
-    /// What is sought; the request is dropped after its answer.
-    fn answer(&mut self, sought: FeatureRequest) -> Result<Response, RegisterFault>
-        ensures { Seeks L.Ledger sought self.old result self.new }
+    /// Where the answer is for features that are sought.
+    fn answer(&mut self, sought: FeatureRequest) -> Result<Located, RegisterFault>
+        ensures { TellsSought L.Ledger sought self.old result self.new }
     {
-        let response = self.seek(&sought);
-        drop(sought);
-        response
+        match self.seek(&sought) {
+            Ok(found) => {
+                let told = located_of(self.alloc, sought, found)?;
+                Ok(told)
+            }
+            Err(fault) => {
+                drop(sought);
+                Err(fault)
+            }
+        }
     }
 
     /// What a request wants. An error means out of memory, or a fault of the ledger.
-    pub(crate) fn tell(&mut self, wanted: ParsedRequest) -> Result<Response, RegisterFault>
+    pub(crate) fn tell(&mut self, wanted: ParsedRequest) -> Result<Located, RegisterFault>
         ensures { Tells L.Ledger wanted self.old result self.new }
     {
         match wanted {
-            ParsedRequest::Immediate(response) => Ok(response),
+            ParsedRequest::Immediate(response) => Ok(Located::Response(response)),
             ParsedRequest::Features(sought) => self.answer(sought),
         }
     }
@@ -343,15 +342,4 @@ impl<L: JournalLedger> Records<L> {
     {
         self.ledger.read_on(reading, most)
     }
-}
-
-/// The refusal of a revision above the one in force.
-fn unknown_revision(alloc: Global) -> Result<Response, AllocError>
-    ensures { IfOk result (λ response. content_in_response response ≡ refusal BadRequest (codes "revision")) }
-{
-    let body = word_body(alloc, "revision")?;
-    Ok(Response {
-        status: Status::BadRequest,
-        body,
-    })
 }

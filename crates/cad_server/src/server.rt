@@ -1,12 +1,16 @@
 //! The server.
 
+use crate::beginning::part_for;
 use crate::laws::requests_have_one_reply;
+use crate::page_work::PageWork;
 use crate::records::{MOST_CHANGES, Records};
+use crate::work_meter::WorkMeter;
+use crate::working;
 use cad_head::reply_bytes;
 use cad_json::word_body;
 use cad_request::ParsedRequest;
 use cad_resource::{Check, Routes, decide};
-use cad_stream::{Answer, JournalResponder, Responder, Summary};
+use cad_stream::{Answer, Begun, JournalResponder, Part, Responder, Summary, WorkingResponder};
 use cad_versions::{Command, HistoryLedger, JournalLedger, Ledger, RegisterFault};
 use httparse::spans::{HeaderSpan, RequestSpans};
 use std::alloc::{AllocError, Global};
@@ -91,7 +95,7 @@ impl<L: HistoryLedger> Server<L> {
 impl<L: JournalLedger> Server<L> {
     ghost use Rattle.cad_server.specs.Chaining.{ServerKeepsChain};
 
-    /// Reads all commands of the ledger, and keeps their chain from then on, which the summary tells. It needs memory for all commands at once.
+    /// Reads all commands of the ledger, and keeps their chain from then on, which the summary shows. It needs memory for all commands at once.
     pub fn keep_chain(&mut self) -> Result<(), RegisterFault>
         ensures { ServerKeepsChain L.Ledger L.JournalLedger.own self.old result self.new }
     {
@@ -151,11 +155,9 @@ impl<L: HistoryLedger> Responder for Server<L> {
         headers: &[HeaderSpan],
         spans: &RequestSpans,
     ) -> Result<Answer, RegisterFault> {
-        let decision = decide(&self.routes, bytes, headers, spans);
-        let wanted = ParsedRequest::of(self.alloc, &decision.requested)?;
-        let response = self.records.tell(wanted)?;
-        let ends = decision.ends;
-        let bytes = reply_bytes(self.alloc, response.status, ends, response.body.as_str())?;
+        let begun = self.begin_answer(bytes, headers, spans)?;
+        let ends = begun.ends;
+        let bytes = working::finish(self.alloc, begun.part)?;
         Ok(Answer { bytes, ends })
     }
 
@@ -180,6 +182,38 @@ impl<L: HistoryLedger> Responder for Server<L> {
 
     fn one_reply() {
         requests_have_one_reply();
+    }
+}
+
+impl<L: HistoryLedger> WorkingResponder for Server<L> {
+    ghost use Rattle.cad_server.specs.Works.{reply_owed, remaining_of};
+
+    type Work = PageWork;
+
+    ghost owes = { reply_owed };
+
+    ghost remaining = { remaining_of };
+
+    type Meter = WorkMeter;
+
+    ghost spent = { λ meter. meter.tested };
+
+    fn begin(
+        &mut self,
+        bytes: &[u8],
+        headers: &[HeaderSpan],
+        spans: &RequestSpans,
+    ) -> Result<Begun<PageWork>, RegisterFault> {
+        self.begin_answer(bytes, headers, spans)
+    }
+
+    fn go_on(
+        alloc: Global,
+        work: PageWork,
+        budget: u32,
+        meter: &mut WorkMeter,
+    ) -> Result<Part<PageWork>, AllocError> {
+        working::go_on(alloc, work, budget, meter)
     }
 }
 
@@ -226,5 +260,29 @@ impl<L: HistoryLedger + JournalLedger> JournalResponder for Server<L> {
 
     fn readings_stay() {
         L::readings_stay();
+    }
+}
+
+impl<L: HistoryLedger> Server<L> {
+    ghost use Rattle.httparse.specs.Spans.{IsRequestWithin};
+    ghost use Rattle.cad_head.specs.Request.{request_at};
+    ghost use Rattle.cad_server.specs.inner.Beginnings.{IsBegun};
+
+    /// Begins to answer the request that `spans` show in the bytes of a head: a page is left to be made, and any other reply is made.
+    fn begin_answer(
+        &mut self,
+        bytes: &[u8],
+        headers: &[HeaderSpan],
+        spans: &RequestSpans,
+    ) -> Result<Begun<PageWork>, RegisterFault>
+        requires { IsRequestWithin bytes.now headers.now spans.now }
+        ensures { IsBegun L.Ledger self.old (request_at bytes.now headers.now spans.now) result self.new }
+    {
+        let decision = decide(&self.routes, bytes, headers, spans);
+        let wanted = ParsedRequest::of(self.alloc, &decision.requested)?;
+        let told = self.records.tell(wanted)?;
+        let ends = decision.ends;
+        let part = part_for(self.alloc, told, ends)?;
+        Ok(Begun { part, ends })
     }
 }

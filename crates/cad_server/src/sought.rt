@@ -1,16 +1,18 @@
 //! What is sought among the features of a revision.
 
-ghost use Rattle.std.specs.Prelude.{◌≡◌, IfOk, option_copied};
+ghost use Rattle.std.specs.Prelude.{◌≡◌, codes, IfOk, option_copied};
+ghost use Rattle.cad_head.specs.declared.status.Status.TheVariants.{BadRequest};
 ghost use Rattle.cad_parameters.specs.Identifiers.{numbers_of};
 ghost use Rattle.cad_history.specs.Snapshots.{features_at};
-ghost use Rattle.cad_server.specs.Contents.{content_in, content_in_response, feature_with, feature_content, revision_sought};
+ghost use Rattle.cad_server.specs.Contents.{content_found, content_in, content_in_response, content_located, feature_with, feature_content, refusal, revision_sought};
 
+use crate::located::Located;
 use cad_feature::Feature;
 use cad_head::Status;
 use cad_history::Snapshot;
 use cad_json::word_body;
 use cad_layer::laws::identifiers_are_unique;
-use cad_page::{body, feature_body};
+use cad_page::feature_body;
 use cad_parameters::Identifier;
 use cad_request::{FeatureRequest, Response};
 use cad_schema::Collection;
@@ -26,30 +28,55 @@ pub(crate) fn revision_of(sought: &FeatureRequest, newest: u64) -> u64
     }
 }
 
-/// The response to a feature request. An error means out of memory.
-pub(crate) fn response_in(
+/// Where the answer is for features that are sought in a snapshot of their revision. An error means out of memory.
+fn located_in(
     alloc: Global,
-    sought: &FeatureRequest,
-    snapshot: &Snapshot,
-) -> Result<Response, AllocError>
-    ensures { IfOk result (λ response. content_in_response response ≡ content_in sought.now snapshot.now) }
+    sought: FeatureRequest,
+    snapshot: Snapshot,
+) -> Result<Located, AllocError>
+    ensures { IfOk result (λ told. content_located told ≡ content_in sought snapshot) }
 {
     match sought {
-        FeatureRequest::Page(ask) => {
-            let body = body(alloc, ask, snapshot)?;
-            Ok(Response {
-                status: Status::Ok,
-                body,
-            })
-        }
+        FeatureRequest::Page(ask) => Ok(Located::Page { ask, snapshot }),
         FeatureRequest::Feature {
             collection,
             identifier,
         } => {
-            let feature = feature_in(snapshot, *collection, *identifier);
-            feature_response(alloc, *collection, feature)
+            let feature = feature_in(&snapshot, collection, identifier);
+            let response = feature_response(alloc, collection, feature)?;
+            Ok(Located::Response(response))
         }
     }
+}
+
+/// The same in the snapshot that was found for them; without one, their revision does not exist. An error
+/// means out of memory.
+pub(crate) fn located_of(
+    alloc: Global,
+    sought: FeatureRequest,
+    found: Option<Snapshot>,
+) -> Result<Located, AllocError>
+    ensures { IfOk result (λ told. content_located told ≡ content_found sought found) }
+{
+    match found {
+        Some(snapshot) => located_in(alloc, sought, snapshot),
+        None => {
+            drop(sought);
+            let response = unknown_revision(alloc)?;
+            Ok(Located::Response(response))
+        }
+    }
+}
+
+/// The refusal of a revision above the one in force.
+pub(crate) fn unknown_revision(alloc: Global) -> Result<Response, AllocError>
+    ensures { IfOk result (λ response. content_in_response response ≡ refusal BadRequest (codes "revision")) }
+{
+    let body = word_body(alloc, "revision")?;
+    Ok(Response {
+        status: Status::BadRequest,
+        body,
+    })
 }
 
 /// The collection's feature with that identifier.

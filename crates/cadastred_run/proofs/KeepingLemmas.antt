@@ -11,6 +11,7 @@ use Rattle.cad_desk.specs.declared.desk.Desk.{Desk}
 use Rattle.cad_desk.specs.Desks.{responder_of}
 use Rattle.cad_server.specs.declared.server.Server.{Server}
 use Rattle.cad_server.specs.Servers.{ledger_of, IsServerOf}
+use Rattle.cad_server.specs.Works.{reply_owed}
 use Rattle.cad_versions.specs.Keeping.{IsShut}
 use Rattle.cadastre_run.specs.Preparing.{IsRefused}
 use Rattle.cadastre_run.specs.Serving.{answers_of}
@@ -33,21 +34,21 @@ abbrev pub FailsBefore : {L : Type 0} → ledger.Ghosts L → Type 0
 FailsBefore {L} g = (old mid new : L) → g.remains old mid → g.fails mid new → g.fails old new
 
 -- a clean disk at the end of hosting was clean before
-module _ {R J : Type 0} (g : Ghosts R) (jg : JournalGhosts R J) (old new : Desk R) (from to : Option (List Deed)) (counts : g.counts (responder_of new)) where
-  hosted_clean : (end : Option Stopped) → HostsBy g jg end from old to new → g.counts (responder_of old)
-  hosted_clean end hosted = goes_clean g jg (hosted.works ++ hosted.closing) old new hosted.first hosted.last hosted.goes counts
+module _ {R J W : Type 0} (g : Ghosts R) (jg : JournalGhosts R J) (owes : W → List ℕ) (old new : Desk R) (from to : Option (List Deed)) (counts : g.counts (responder_of new)) where
+  hosted_clean : (end : Option Stopped) → HostsBy g jg owes end from old to new → g.counts (responder_of old)
+  hosted_clean end hosted = goes_clean g jg owes (hosted.works ++ hosted.closing) old new hosted.first hosted.last hosted.goes counts
 
-  either_clean : HostsBy g jg None from old to new ⊎ HostsBy g jg (Some Asked) from old to new → g.counts (responder_of old)
+  either_clean : HostsBy g jg owes None from old to new ⊎ HostsBy g jg owes (Some Asked) from old to new → g.counts (responder_of old)
   either_clean (inl hosted) = hosted_clean None hosted
   either_clean (inr hosted) = hosted_clean (Some Asked) hosted
 
   module _ (asked : SocketAddr) (before after : Option (List ℕ)) where
-    failed_clean : EndsHosting asked before after from to g jg old outcome.Failed new → g.counts (responder_of old)
-    failed_clean (inl unhosted) = same_counts g jg old new unhosted.0 counts
+    failed_clean : EndsHosting asked before after from to g jg owes old outcome.Failed new → g.counts (responder_of old)
+    failed_clean (inl unhosted) = same_counts g jg owes old new unhosted.0 counts
     failed_clean (inr hosted) = either_clean hosted.1
 
-    ended_clean : (ended : Outcome) → EndsHosting asked before after from to g jg old ended new → g.counts (responder_of old)
-    ended_clean outcome.Address it = same_counts g jg old new it.1.0 counts
+    ended_clean : (ended : Outcome) → EndsHosting asked before after from to g jg owes old ended new → g.counts (responder_of old)
+    ended_clean outcome.Address it = same_counts g jg owes old new it.1.0 counts
     ended_clean outcome.Good it = hosted_clean _ it.1
     ended_clean (outcome.Register fault) it = hosted_clean _ it.2
     ended_clean outcome.Failed it = failed_clean it
@@ -57,14 +58,14 @@ module _ {R J : Type 0} (g : Ghosts R) (jg : JournalGhosts R J) (old new : Desk 
     ended_clean (outcome.Lines fault) it = absurd it
 
 -- a server over a ledger, which held these commands before, by the law of what is done; what it holds at the end is held so
-module _ {L J : Type 0} (g : ledger.Ghosts L) (j : journal_ledger.Ghosts L J) (law : LedgerStands (answers_of g) (journals_of j)) (commands : List Command) (Holds : List Command → Type 0) (old new : Desk (Server L)) (from to : Option (List Deed))
+module _ {L J : Type 0} (g : ledger.Ghosts L) (j : journal_ledger.Ghosts L J) (law : LedgerStands (answers_of g) (journals_of j) reply_owed) (commands : List Command) (Holds : List Command → Type 0) (old new : Desk (Server L)) (from to : Option (List Deed))
     (stands : IsServerOf g (responder_of old) commands) (counts : g.counts (ledger_of (responder_of new))) (holds : (all : List Command) → IsServerOf g (responder_of new) all → Holds all) where
-  keeps_hosted : (end : Option Stopped) → (hosted : HostsBy (answers_of g) (journals_of j) end from old to new) → KeepsHosted (answers_of g) (journals_of j) commands Holds hosted
+  keeps_hosted : (end : Option Stopped) → (hosted : HostsBy (answers_of g) (journals_of j) reply_owed end from old to new) → KeepsHosted (answers_of g) (journals_of j) reply_owed commands Holds hosted
   keeps_hosted end hosted may =
       let all = law commands (hosted.works ++ hosted.closing) old new hosted.first hosted.last hosted.goes may counts stands in
       (all.0, all.1, holds (commands ++ all.0) all.3)
 
-  keeps_either : (either : HostsBy (answers_of g) (journals_of j) None from old to new ⊎ HostsBy (answers_of g) (journals_of j) (Some Asked) from old to new) → KeepsEither (answers_of g) (journals_of j) commands Holds either
+  keeps_either : (either : HostsBy (answers_of g) (journals_of j) reply_owed None from old to new ⊎ HostsBy (answers_of g) (journals_of j) reply_owed (Some Asked) from old to new) → KeepsEither (answers_of g) (journals_of j) reply_owed commands Holds either
   keeps_either (inl hosted) = keeps_hosted None hosted
   keeps_either (inr hosted) = keeps_hosted (Some Asked) hosted
 
@@ -72,11 +73,11 @@ module _ {L J : Type 0} (g : ledger.Ghosts L) (j : journal_ledger.Ghosts L J) (l
   keeps_same same = holds commands (subst (λ (d : Desk (Server L)). IsServerOf g (responder_of d) commands) (sym same) stands)
 
   module _ (asked : SocketAddr) (before after : Option (List ℕ)) where
-    keeps_failed : (it : EndsHosting asked before after from to (answers_of g) (journals_of j) old outcome.Failed new) → KeepsFailed (answers_of g) (journals_of j) commands Holds it
+    keeps_failed : (it : EndsHosting asked before after from to (answers_of g) (journals_of j) reply_owed old outcome.Failed new) → KeepsFailed (answers_of g) (journals_of j) reply_owed commands Holds it
     keeps_failed (inl unhosted) = keeps_same unhosted.0
     keeps_failed (inr hosted) = keeps_either hosted.1
 
-    keeps_after : (ended : Outcome) (it : EndsHosting asked before after from to (answers_of g) (journals_of j) old ended new) → KeepsAfter asked before after from to (answers_of g) (journals_of j) commands Holds old ended new it
+    keeps_after : (ended : Outcome) (it : EndsHosting asked before after from to (answers_of g) (journals_of j) reply_owed old ended new) → KeepsAfter asked before after from to (answers_of g) (journals_of j) reply_owed commands Holds old ended new it
     keeps_after outcome.Address it = keeps_same it.1.0
     keeps_after outcome.Good it = keeps_hosted _ it.1
     keeps_after (outcome.Register fault) it = keeps_hosted _ it.2
@@ -115,16 +116,16 @@ module _ {L J : Type 0} (g : ledger.Ghosts L) (j : journal_ledger.Ghosts L J) (a
   clean_before (inl unread) counts = unhosted_clean g j lent unread.refused unread.why (subst g.counts unread.ends.back counts)
   clean_before (inr hosted) counts =
       let last = subst g.counts hosted.back counts in
-      let first = ended_clean (answers_of g) (journals_of j) hosted.old hosted.new from to last asked before after ended.0 hosted.hosting in
+      let first = ended_clean (answers_of g) (journals_of j) reply_owed hosted.old hosted.new from to last asked before after ended.0 hosted.hosting in
       ready_clean g lent hosted.old hosted.ready first
 
-  pub keeps : FailsBefore g → LedgerStands (answers_of g) (journals_of j) → (hosts : HostsOver asked before after from to g j lent ended) → g.counts ended.1 → (commands : List Command) → g.stands_for lent commands
+  pub keeps : FailsBefore g → LedgerStands (answers_of g) (journals_of j) reply_owed → (hosts : HostsOver asked before after from to g j lent ended) → g.counts ended.1 → (commands : List Command) → g.stands_for lent commands
       → Keeps asked before after from to g j commands lent ended hosts
   keeps fails_before law (inl unread) counts commands stands =
       subst (λ (l : L). g.stands_for l commands ⊎ IsShut g.lives g.fails lent unread.refused.0 l) (sym unread.ends.back)
       (unhosted_stands g j lent fails_before unread.refused unread.why (subst g.counts unread.ends.back counts) commands stands)
   keeps fails_before law (inr hosted) counts commands stands =
       let last = subst g.counts hosted.back counts in
-      let first = ended_clean (answers_of g) (journals_of j) hosted.old hosted.new from to last asked before after ended.0 hosted.hosting in
+      let first = ended_clean (answers_of g) (journals_of j) reply_owed hosted.old hosted.new from to last asked before after ended.0 hosted.hosting in
       keeps_after g j law commands (g.stands_for ended.1) hosted.old hosted.new from to (ready_stands g lent hosted.old hosted.ready first commands stands) last
       (λ all it. subst (λ (l : L). g.stands_for l all) (sym hosted.back) it.ledger) asked before after ended.0 hosted.hosting

@@ -14,6 +14,7 @@ use Rattle.cad_desk.specs.declared.desk.Desk.{Desk}
 use Rattle.cad_desk.specs.Desks.{responder_of}
 use Rattle.cad_server.specs.declared.server.Server.{Server}
 use Rattle.cad_server.specs.Servers.{ledger_of}
+use Rattle.cad_server.specs.Works.{reply_owed}
 use Rattle.cadastre_run.specs.Preparing.{IsDeskReady, IsRefused}
 use Rattle.cadastre_run.specs.Serving.{answers_of}
 use Rattle.cad_event_loop.specs.declared.stopped.Stopped.{Stopped}
@@ -45,19 +46,19 @@ module _ (asked : SocketAddr) (before after : Option (List ℕ)) (from to : Opti
   -- The requested address is not bound, and nothing is written.
   -- Or the address is written, and then the desk is hosted until the office asks to stop, or the database refuses.
   -- Or the address cannot be written, and nothing is hosted. Or it is written and hosting failed, and the database did not refuse.
-  abbrev pub EndsHosting : {R J : Type 0} → responder.Ghosts R → journal_responder.Ghosts R J → Desk R → Outcome → Desk R → Type 0
-  EndsHosting g j old outcome.Address new = (after ≡ before) × IsUnhosted old new
-  EndsHosting g j old outcome.Good new = TellsAddress × HostsBy g j (Some Asked) from old to new
-  EndsHosting g j old (outcome.Register fault) new = (fault ≡ register.Store) × TellsAddress × HostsBy g j (Some StoreRefused) from old to new
-  EndsHosting g j old outcome.Failed new = IsUnhosted old new ⊎ (TellsAddress × (HostsBy g j None from old to new ⊎ HostsBy g j (Some Asked) from old to new))
-  EndsHosting g j old other new = ⊥
+  abbrev pub EndsHosting : {R J W : Type 0} → responder.Ghosts R → journal_responder.Ghosts R J → (W → List ℕ) → Desk R → Outcome → Desk R → Type 0
+  EndsHosting g j owes old outcome.Address new = (after ≡ before) × IsUnhosted old new
+  EndsHosting g j owes old outcome.Good new = TellsAddress × HostsBy g j owes (Some Asked) from old to new
+  EndsHosting g j owes old (outcome.Register fault) new = (fault ≡ register.Store) × TellsAddress × HostsBy g j owes (Some StoreRefused) from old to new
+  EndsHosting g j owes old outcome.Failed new = IsUnhosted old new ⊎ (TellsAddress × (HostsBy g j owes None from old to new ⊎ HostsBy g j owes (Some Asked) from old to new))
+  EndsHosting g j owes old other new = ⊥
 
   -- a desk over the ledger is hosted, and the ledger is given back
   pub record EndsHosted {L J : Type 0} (g : ledger.Ghosts L) (j : journal_ledger.Ghosts L J) (lent : L) (ended : Outcome × L) : Type 0 where
     pub old : Desk (Server L)
     pub new : Desk (Server L)
     pub ready : IsDeskReady g lent old
-    pub hosting : EndsHosting (answers_of g) (journals_of j) old ended.0 new
+    pub hosting : EndsHosting (answers_of g) (journals_of j) reply_owed old ended.0 new
     pub back : ended.1 ≡ ledger_of (responder_of new)
 
   -- what the ledger stores is refused, and nothing is written or done at the network

@@ -14,7 +14,8 @@ use cad_desk::Desk;
 use cad_event_loop::host;
 use cad_network::Network;
 use cad_serve::{bound_for, read_address, tell_address};
-use cad_stream::JournalResponder;
+use cad_server::WorkMeter;
+use cad_stream::{JournalResponder, WorkingResponder};
 use cad_versions::{HistoryLedger, JournalLedger};
 use std::alloc::Global;
 use std::fs::Files;
@@ -36,22 +37,23 @@ pub fn open_doors<N: Net + Files>(rt: &N, service: Service<'_>) -> Result<Doors,
 }
 
 /// Writes the address, if the address that is found is the requested one, and serves the desk at the network.
-fn host_desk<N: Network, R: JournalResponder, W: Write, A: AccessLog<N::Socket>>(
+fn host_desk<N: Network, R: JournalResponder + WorkingResponder, W: Write, A: AccessLog<N::Socket>>(
     alloc: Global,
     asked: SocketAddr,
     found: IoResult<SocketAddr>,
     net: &mut N,
     writer: &mut W,
     log: &mut A,
+    meter: &mut R::Meter,
     desk: &mut Desk<R>,
 ) -> Outcome
-    ensures { EndsHosting asked (W.contents writer.old) (W.contents writer.new) (N.history net.old) (N.history net.new) R.Responder R.JournalResponder.own desk.old result desk.new }
+    ensures { EndsHosting asked (W.contents writer.old) (W.contents writer.new) (N.history net.old) (N.history net.new) R.Responder R.JournalResponder.own R.owes desk.old result desk.new }
 {
     let Some(bound) = bound_for(asked, found) else {
         return Outcome::Address;
     };
     match tell_address(writer, bound) {
-        Ok(()) => Outcome::of_hosting(host(alloc, net, desk, log)),
+        Ok(()) => Outcome::of_hosting(host(alloc, net, desk, meter, log)),
         Err(_) => Outcome::Failed,
     }
 }
@@ -74,7 +76,8 @@ pub fn host_over<N: Network, L: HistoryLedger + JournalLedger, W: Write, A: Acce
     match chained_server(alloc, ledger, chains) {
         Ok(server) => {
             let mut desk = Desk::new(alloc, server);
-            let outcome = host_desk(alloc, asked, found, net, writer, log, &mut desk);
+            let mut meter = WorkMeter::default();
+            let outcome = host_desk(alloc, asked, found, net, writer, log, &mut meter, &mut desk);
             (outcome, desk.release().release())
         }
         Err((fault, ledger)) => (Outcome::Register(fault), ledger),

@@ -8,6 +8,8 @@ use Rattle.cad_versions.specs.Keeping.{IsOfKeeping}
 use Rattle.cad_memory_ledger.specs.Ledgers.{IsLedgerOf}
 use Rattle.cad_head.specs.Request.{Request}
 use Rattle.test_support.specs.declared.echo.Echo.{Echo}
+use Rattle.test_support.specs.declared.echoing.Echoing.{Echoing}
+use Rattle.test_support.specs.declared.echoing.Units.{Units}
 
 -- its ledger holds the commands
 abbrev pub StandsFor : Echo → List Command → Type 0
@@ -30,3 +32,13 @@ one_echo commands r one other e f = e ∙ sym f
 
 pub lost_keeps : (fault : RegisterFault) → fault ≡ NotARegister → IsOfKeeping fault
 lost_keeps fault e = rw e tt
+
+-- the reply that is owed, how many units of work are left for it, and how many were done
+abbrev pub owed : Echoing → List ℕ
+owed work = work.reply.items
+
+abbrev pub left_of : Echoing → ℕ
+left_of work = work.left
+
+abbrev pub done_in : Units → ℕ
+done_in units = units.done

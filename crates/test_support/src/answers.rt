@@ -47,7 +47,7 @@ fn told(alloc: Global, reply: Reply) -> Result<String, AllocError> {
         Reply::Entered(revision) => format!(in alloc; "Entered {revision}"),
         Reply::Sent { bytes, ends } => {
             let end = if ends { " ends" } else { "" };
-            format!(in alloc; "Sent {}{end}", json_of(alloc, &bytes)?.as_str())
+            format!(in alloc; "Sent {}{end}", json_of(alloc, bytes.as_slice())?.as_str())
         }
     }
 }

@@ -3,9 +3,10 @@
 ghost use Rattle.std.specs.Prelude.{◌≡◌, IfOk};
 ghost use Rattle.test_support.specs.Echoes.{echo as echo_of};
 
+use crate::echoing::{Echoing, Units, begun};
 use cad_head::closes_connection;
 use cad_memory_ledger::{MemoryLedger, MemoryReading};
-use cad_stream::{Answer, JournalResponder, Responder, Summary};
+use cad_stream::{Answer, Begun, JournalResponder, Part, Responder, Summary, WorkingResponder};
 use cad_versions::{Command, JournalLedger, Ledger, RegisterFault};
 use httparse::spans::{HeaderSpan, RequestSpans};
 use std::alloc::{AllocError, Global};
@@ -140,6 +141,40 @@ impl Responder for Echo {
 
     #[tactic(auto, using(crate::specs::Echoes::one_echo))]
     fn one_reply() {}
+}
+
+impl WorkingResponder for Echo {
+    ghost use Rattle.test_support.specs.Echoes.{owed, left_of, done_in};
+
+    type Work = Echoing;
+
+    ghost owes = { owed };
+
+    ghost remaining = { left_of };
+
+    type Meter = Units;
+
+    ghost spent = { done_in };
+
+    fn begin(
+        &mut self,
+        bytes: &[u8],
+        headers: &[HeaderSpan],
+        spans: &RequestSpans,
+    ) -> Result<Begun<Echoing>, RegisterFault> {
+        let Answer { bytes: reply, ends } = self.answer(bytes, headers, spans)?;
+        let part = begun(reply, spans.path.of(bytes));
+        Ok(Begun { part, ends })
+    }
+
+    fn go_on(
+        _alloc: Global,
+        work: Echoing,
+        budget: u32,
+        meter: &mut Units,
+    ) -> Result<Part<Echoing>, AllocError> {
+        work.go_on(budget, meter)
+    }
 }
 
 impl JournalResponder for Echo {

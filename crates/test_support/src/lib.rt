@@ -2,7 +2,9 @@
 //! writers that end or fail at a given place.
 //!
 //! - [`Echo`]: answers each request with its method, its target and the revision in force, over a ledger in memory. Two targets have no
-//!   reply: `/lost` is refused with `NotARegister`, and `/full` with `Memory`.
+//!   reply: `/lost` is refused with `NotARegister`, and `/full` with `Memory`. The reply to `/units/N` takes N units of work,
+//!   and so does that to `/unmade/N`, but there is no memory for the last of them.
+//! - [`Echoing`]: the work that is left for such a reply; [`Units`] counts what was done
 //! - [`Peer`]: a reader. `Peer::new(b"GET", 1, 2, Stop::Fails)` gives `G`, then `E`, and then it fails.
 //! - [`Endless`]: a reader that gives a text again and again. `Endless::new(b"ab")` gives `a`, then `b`, then `a`.
 //! - [`Taker`]: a writer that keeps what it took. `Taker::new(2, 3, Stop::Ends)` takes two bytes, then one, and then none.
@@ -32,6 +34,7 @@ mod answers;
 mod bytes;
 mod copies;
 mod echo;
+mod echoing;
 mod endless;
 mod ledgers;
 mod lines;
@@ -43,6 +46,7 @@ mod taker;
 pub use answers::{Memory, answer, answer_event};
 pub use copies::Copies;
 pub use echo::Echo;
+pub use echoing::{Echoing, Units};
 pub use endless::Endless;
 pub use ledgers::listed;
 pub use lines::{Failure, Line, Served, line_of};

@@ -1,0 +1,36 @@
+//! The work for the reply with a page.
+
+ghost use Rattle.cad_server.specs.Stages.{IsStageFor, stage_prop};
+
+use crate::requested_page::RequestedPage;
+use crate::stage::Stage;
+use cad_history::Snapshot;
+use cad_page::Ask;
+
+/// The work that is left for the reply with a page. It holds the features of the page's revision, so no command changes what it owes.
+#[derive(Drop)]
+pub struct PageWork {
+    pub(crate) page: RequestedPage,
+    pub(crate) stage: Stage,
+    pub ghost stands: { IsStageFor stage page.ask page.snapshot } by { stage_prop stage page.ask page.snapshot },
+}
+
+impl PageWork {
+    ghost use Rattle.std.specs.Prelude.{◌≡◌};
+    ghost use Rattle.cad_server.specs.Stages.{reply_with};
+    ghost use Rattle.cad_server.specs.Works.{reply_owed};
+
+    /// The work of which nothing is done.
+    pub(crate) fn new(ask: Ask, snapshot: Snapshot, ends: bool) -> PageWork
+        ensures { reply_owed result ≡ reply_with ask snapshot ends }
+    {
+        PageWork {
+            page: RequestedPage {
+                ask,
+                snapshot,
+                ends,
+            },
+            stage: Stage::Planning,
+        }
+    }
+}

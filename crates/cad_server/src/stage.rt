@@ -1,0 +1,26 @@
+//! How far the work for a page is.
+
+use cad_page::{Plan, Search};
+
+/// A plan, and the search by it.
+#[derive(Drop)]
+pub(crate) struct Planned {
+    pub(crate) plan: Plan,
+    pub(crate) search: Search,
+}
+
+/// How far the work is.
+#[derive(Drop)]
+pub(crate) enum Stage {
+    /// No plan is chosen.
+    Planning,
+    /// The page is searched for.
+    Searching(Planned),
+    /// The page was found, and its text is to be written.
+    Writing {
+        /// The search that found it.
+        search: Search,
+        /// Whether more features are left.
+        more: bool,
+    },
+}
