@@ -6,18 +6,18 @@ BUILD = RT="$(RT)" scripts/build $(if $(JOBS),--jobs $(JOBS))
 # For `make explain`: the query of a request, and its collection.
 QUERY ?=
 COLLECTION ?= parcels
-# For `make look`: a path with its query.
+# For `make try`: a path with its query.
 REQUEST ?=
 # For `make replicas`: how many servers, and members of etcd.
 NODES ?= 3
 MEMBERS ?= $(NODES)
 export QUERY COLLECTION REQUEST
 
-.PHONY: look sample cadastred explain cases early test random check wrong-bodies tests-refuse refused damage bench compare register-file journal office-file serve-file stops host clients proxy import viewer replicas cluster cluster-refuses deb clean
+.PHONY: try sample cadastred explain cases early test random check wrong-bodies tests-refuse refused damage bench compare register-file journal office-file serve-file stops host clients proxy import viewer viewer-refuses gateway gateway-refuses replicas cluster cluster-refuses deb clean
 
 # Answers a request over the sample register without a proof, in a few minutes. The request is that of crates/cadastre/stdin, or
-# `make look REQUEST='/collections/parcels/items?filter=area+>+400'`.
-look:
+# `make try REQUEST='/collections/parcels/items?filter=area+>+400'`.
+try:
 	@RT="$(RT)" scripts/try_request "$$REQUEST"
 
 # Proves and builds `cadastre` and all crates that it uses, and answers the request in crates/cadastre/stdin. Crates that do not wait
@@ -40,6 +40,8 @@ explain:
 # - Second implementations of the rules check the stored answers of the cases, and the examples of docs/FILTERS.md.
 # - What judges the answers of a cluster refuses wrong histories, and its nodes write commands as journals do.
 # - The examples of docs/API.md are cases of the server. The cases of commands under joined names are counted.
+# - The functions of docs/FILTERS.md write texts that the filters read. The exporter says what docs/OFFICE.md says.
+# - Each script that is called wrongly prints its usage. scripts/why names who has what a service needs.
 # - docs/PROMISES.md and docs/READING.md have the numbers of the crates. The tables of docs/ARCHITECTURE.md name the files of definitions.
 # - Names in the code use the words of docs/ARCHITECTURE.md. Lists of collections are complete.
 # - The sentences of documents and scripts are within the bounds of docs/STYLE.md.
@@ -52,6 +54,10 @@ cases:
 	scripts/check_orders
 	scripts/check_node_lines
 	scripts/check_api_examples
+	scripts/check_quoting
+	scripts/check_help
+	scripts/check_usage
+	scripts/check_why
 	scripts/count_promises
 	scripts/count_reading
 	scripts/check_words
@@ -70,11 +76,13 @@ early: cases
 # The whole gate. It runs:
 # - `make early`, every proof from nothing, the must-fail edits, and the tests;
 # - each program, as two compilers build it;
+# - the server's cases in pieces of bounded work, with the next line between the beginning and the end of each response;
 # - each request for features of the cases at every revision of its register;
 # - both programs on files of the office, at an address, and at the office's socket;
 # - the office with a stop at each call of its files, and a database that is refused memory.
 test: early
 	$(RT) ci
+	scripts/check_pieces
 	scripts/check_changes
 	scripts/check_revisions
 	scripts/check_office
@@ -137,7 +145,8 @@ compare: sample cadastred
 register-file: sample
 	scripts/check_register_file
 
-# Prints the journal of a village's register, enters it into a new file, and compares the pages of both files.
+# Prints the journal of a village's register, enters it into a new file, and compares the pages of both files. Copies a register while it is
+# served, and checks that files with another past stay as they are.
 journal: sample cadastred
 	scripts/check_journal
 	scripts/check_backup
@@ -170,29 +179,48 @@ import: sample cadastred
 	scripts/check_import
 
 # Runs nginx with the snippet of docs/OPERATIONS.md in front of `cadastred` and of `cadastre serve`. systemd verifies the units of that page.
+# Then it runs nginx with the snippet of docs/GATEWAY.md, where parcels and units are open to all, and parties and rights ask for a password.
 proxy: sample cadastred
 	scripts/check_proxy
+	scripts/check_gateway nginx
 
 # Opens viewer/ in headless Chromium, behind nginx and `cadastred`, on a village and on 100,000 parcels, and compares what it shows with
-# the register. PICTURES names a folder for pictures of both, and for the printed sheet. Needs chromium, nginx-light and openssl.
+# the register. Cites it in a hundred random states, and compares with what the server answers to what was cited.
+# PICTURES names a folder for pictures of both, and for the printed sheet. Needs chromium, nginx-light and openssl.
 viewer: sample cadastred
 	scripts/check_viewer $(PICTURES)
+	scripts/check_citations
 	scripts/check_viewer_many $(PICTURES)
+
+# Checks that the citations of wrong pages are refused, those of wrong-viewers/. It takes some minutes. Needs the same.
+viewer-refuses: sample cadastred
+	scripts/viewer_refuses
+
+# Reads a village through the gateway by QGIS, GDAL, OWSLib and plain requests, while the office writes, and looks at a drawn map. PARTS
+# names some of its parts (scripts/check_gateway). docs/GATEWAY.md names the packages that it needs.
+gateway: sample cadastred
+	scripts/check_gateway $(PARTS)
+
+# Checks that `make gateway` refuses each wrong edit of the gateway in gateway/wrong/.
+gateway-refuses: sample cadastred
+	scripts/gateway_refuses
 
 # Runs NODES servers of one register on this machine, with MEMBERS of etcd, HAProxy and nginx, until an interrupt. docs/CLUSTER.md shows what
 # to do with them. Needs etcd-server, etcd-client, haproxy, nginx-light and python3-etcd3.
 replicas: cadastred
 	scripts/start_cluster .build/replicas $(NODES) $(MEMBERS)
 
-# Strikes three nodes for MINUTES while offices enter at all of them and readers walk through the balancers. SEED draws the blows. Needs the same.
+# Runs the commands of docs/CLUSTER.md on such nodes. Then it strikes three nodes for MINUTES while offices enter at all of them and readers walk
+# through the balancers. SEED draws the blows. Needs the same.
 cluster: cadastred
+	scripts/check_replicas
 	scripts/check_cluster
 
 # Checks that `make cluster` refuses each wrong edit of `cadastre-node` in cluster/wrong/. It takes about a minute for each.
 cluster-refuses: cadastred
 	scripts/cluster_refuses
 
-# Puts the programs into a Debian package and checks it. If root runs it, it also installs, uses and removes the package. Needs debhelper
+# Puts the programs into Debian packages and checks them. If root runs it, it also installs, uses and removes the packages. Needs debhelper
 # and lintian.
 deb: sample cadastred
 	scripts/package

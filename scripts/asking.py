@@ -1,7 +1,10 @@
 """A client of the server for the scripts that measure it, and the registers that they measure it on."""
+import contextlib
+import json
 import os
 import random
 import socket
+import subprocess
 from pathlib import Path
 
 TOP = Path(__file__).resolve().parent.parent
@@ -135,3 +138,33 @@ class Client:
         data = self.socket.recv(1 << 20)
         assert data, "the connection ended"
         return data
+
+
+def middle(numbers):
+    return sorted(numbers)[len(numbers) // 2]
+
+
+@contextlib.contextmanager
+def running(*words):
+    """A program that listens; its address."""
+    with subprocess.Popen(words, stdout=subprocess.PIPE, text=True) as server:
+        try:
+            yield server.stdout.readline().split()[1]
+        finally:
+            server.kill()
+
+
+@contextlib.contextmanager
+def entering(path, first):
+    """A call that enters a command at the office's socket; the objects are numbered from `first` on."""
+    numbers = iter(range(first, first + 10000))
+    with socket.socket(socket.AF_UNIX) as office:
+        office.connect(path)
+        answers = office.makefile("rb")
+
+        def enter():
+            line = {"do": "enter", "object": 2000000 + next(numbers), "first": "2000-01-01", "unit": {}}
+            office.sendall(json.dumps(line).encode() + b"\n")
+            assert answers.readline().startswith(b"revision ")
+
+        yield enter

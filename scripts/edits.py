@@ -1,4 +1,4 @@
-"""Reads wrong bodies, which are edits of a crate's code that the prover or a test has to refuse."""
+"""Reads wrong bodies, which are edits of a crate's code that the prover or a test has to refuse, and edits of other programs."""
 import glob
 import os
 
@@ -26,9 +26,9 @@ def crate_of(edit):
     return os.path.basename(os.path.dirname(folder) if os.path.basename(folder) == "must-fail" else folder)
 
 
-def turned(edit):
-    """The changed texts by the paths of their files in the crate, and the reasons why the edit cannot be put in place."""
-    crate = f"{TOP}/crates/{crate_of(edit)}"
+def turned(edit, folder=None):
+    """The changed texts by the paths of their files in the crate, or in a folder, and the reasons why the edit cannot be put in place."""
+    crate = folder or f"{TOP}/crates/{crate_of(edit)}"
     path, old, pairs, texts, why = "", None, 0, {}, []
     with open(edit, encoding="utf-8", newline="") as it:
         lines = it.read().split("\n")

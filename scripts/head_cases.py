@@ -8,8 +8,8 @@ end or at its end.
 """
 import json
 import random
-import sys
 
+from calling import a_number, arguments, with_defaults
 import server_model
 
 COUNT = 1000
@@ -119,7 +119,7 @@ def cases(seed):
 
 
 def main():
-    seed = int(sys.argv[1]) if len(sys.argv) > 1 else 1
+    [seed] = with_defaults(arguments(__doc__, a_number), 1)
     print(f"# A thousand connections with heads cut, doubled, joined and changed, by scripts/head_cases.py {seed}")
     for row in cases(seed):
         print(row)

@@ -9,6 +9,8 @@ import re
 import sys
 from pathlib import Path
 
+from calling import arguments, one_of, wrong_call
+
 CASES = Path(__file__).resolve().parent.parent / "crates/land_cases"
 # The parts, in their order.
 NAMES = ["days", "shapes", "office", "features", "histories", "rows", "starts", "journals", "memory journals", "dry run"]
@@ -27,4 +29,6 @@ def parts():
 
 
 if __name__ == "__main__":
-    sys.stdout.buffer.write(parts()[sys.argv[1]])
+    known = parts()
+    [wanted] = arguments(__doc__, one_of(known)) or wrong_call(__doc__)
+    sys.stdout.buffer.write(known[wanted])

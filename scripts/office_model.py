@@ -15,6 +15,7 @@ import hashlib
 import json
 import sys
 
+from calling import arguments, one_of, wrong_call
 import server_model
 from filter_model import day_of, is_ring
 
@@ -353,7 +354,8 @@ PARTS = {"office": answers, "features": features, "journals": journals, "memory 
 
 
 def main():
-    for answer in PARTS[sys.argv[1]](sys.stdin.buffer.read()):
+    [part] = arguments(__doc__, one_of(PARTS)) or wrong_call(__doc__)
+    for answer in PARTS[part](sys.stdin.buffer.read()):
         print(answer)
 
 

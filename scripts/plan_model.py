@@ -14,6 +14,7 @@ import re
 import sys
 from urllib.parse import quote_plus
 
+from calling import a_file, arguments
 import filter_meaning as meaning
 import filter_model as model
 import normal_model as normal
@@ -266,8 +267,8 @@ def check_page(path):
 
 def main():
     sys.setrecursionlimit(20000)
-    if len(sys.argv) > 1:
-        return check_page(sys.argv[1])
+    for page in arguments(__doc__, a_file):
+        return check_page(page)
     for line in sys.stdin.buffer.read().split(b"\n"):
         if line and not line.startswith(b"#"):
             print(answer(line))

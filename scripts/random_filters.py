@@ -7,8 +7,8 @@ The script draws filters by the grammar, with the names of the collection and wi
 unknown name or an invalid literal. A third has a character or a word too many or too few.
 """
 import random
-import sys
 
+from calling import a_number, arguments, wrong_call
 from filter_model import SCHEMAS, SPATIAL, TEMPORAL
 
 TEXTS = ["A-1", "A%", "b-7", "B", "_-1", "%1", "A_1", "", "Mill", "ana", "a-1", "C%1", "%", "é", "Ä%", "ownership", "ß", "o'", "\U0010ffff"]
@@ -181,5 +181,6 @@ def filters(seed, count):
 
 
 if __name__ == "__main__":
-    for line in filters(int(sys.argv[1]), int(sys.argv[2])):
+    words = arguments(__doc__, a_number, a_number)
+    for line in filters(*words) if len(words) == 2 else wrong_call(__doc__):
         print(line)

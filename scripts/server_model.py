@@ -21,6 +21,7 @@ import re
 import sys
 from urllib.parse import quote_plus, unquote_to_bytes
 
+from calling import a_number, arguments, with_defaults
 import filter_model
 from filter_meaning import asked_days, meets, related, shape_of, span, truth
 from filter_model import SCHEMAS, day_of, tree_of
@@ -599,7 +600,7 @@ def answers(lines, wanting=None):
 
 
 def main():
-    wanting = int(sys.argv[1]) if len(sys.argv) > 1 else None
+    [wanting] = with_defaults(arguments(__doc__, a_number), None)
     for _, answer in answers(sys.stdin, wanting):
         print(answer)
 

@@ -13,6 +13,8 @@ import re
 import sys
 from pathlib import Path
 
+from calling import arguments, one_of, wrong_call
+
 CRATES = Path(__file__).resolve().parent.parent / "crates"
 BEFORE_THE_CASE = (b"truth", b"normal")
 
@@ -40,7 +42,7 @@ def of_words(program, words, others=False):
 
 
 def main():
-    program, part, *words = sys.argv[1:]
+    program, part, *words = arguments(__doc__, str, one_of(("in", "out")), more=str) if len(sys.argv) > 3 else wrong_call(__doc__)
     others = words[0] == "-"
     chosen = of_words(program, {it.encode() for it in words[others:]}, others)[part == "out"]
     sys.stdout.buffer.write(b"".join(it + b"\n" for it in chosen))

@@ -8,8 +8,9 @@ import json
 import re
 import time
 from datetime import datetime, timedelta, timezone
-from urllib.parse import urlsplit
+from urllib.parse import urlencode, urlsplit
 
+import quoting
 import served
 from viewing import HEIGHT, WIDTH, fails, need
 
@@ -72,6 +73,32 @@ def check_find(page, everything):
     page.put("find", "mill park")
     press(page, "#found button")
     need(texts(page, "#panel h2"), [next(f"Unit {it['properties']['object']}: Mill Park" for it in everything["units"] if it["properties"]["name"] == "Mill Park")], "a unit")
+
+
+# What the functions of a page make of texts, or nothing where they refuse one.
+QUOTED = """((texts) => {
+  %s
+  const tried = (call, text) => {
+    try {
+      return call(text);
+    } catch {
+      return null;
+    }
+  };
+  return texts.map((it) => [tried(quoted, it), tried(pattern, it)]);
+})(%s)"""
+
+
+def check_quoting(page):
+    """Checks that the functions in JavaScript of docs/FILTERS.md write what those in Python write, and that the server takes it."""
+    every = [it for it in quoting.texts() if len(it) != 5]
+    wanted = [[quoting.written(call, it) for call in quoting.in_python()] for it in every]
+    found = page.at.value(QUOTED % (quoting.functions("JavaScript"), json.dumps(every)))
+    for text, one, other in zip(every, found, wanted):
+        need(one, other, f"{text!r} in JavaScript and in Python")
+    for text, (plain, pattern) in list(zip(every, wanted))[:: len(every) // 20]:
+        if plain is not None:
+            served.get(page.server, "/collections/parcels/items?" + urlencode({"limit": 1, "filter": f"label = {plain} OR label LIKE {pattern}"}))
 
 
 def side_of(box, sides):
@@ -167,33 +194,102 @@ def check_history(page, lines):
     need(page.text("revision-of").split(" ")[0], mine[0], "a revision of the parcel")
 
 
-def check_compare(page, everything, number, past, older):
-    """Checks two revisions side by side, with the changed parcels in two colours."""
+# What the comparison leaves out: a name of another object is compared where that object is.
+NAMES = {"unit_name", "party_name"}
+
+
+def changed(one, other):
+    """The objects whose features differ, in either direction."""
+    plain = lambda it: (it["id"], json.dumps([{name: value for name, value in it["properties"].items() if name not in NAMES}, it["geometry"]], sort_keys=True))
+    return sorted({it["properties"]["object"] for some, others in ((one, other), (other, one)) for it in some if plain(it) not in {plain(more) for more in others}})
+
+
+def check_registered(page, number, past, older):
+    """Checks that the comparison has the rights, restrictions, responsibilities and parties of the units in view that differ."""
+    sides = [{name: [it for it in features if holds_on(it, DAY)] for name, features in side.items()} for side in (older, past)]
+    units = {it["properties"]["unit"] for side in sides for it in held_on(side["parcels"], DAY)}
+    parties = {it["properties"]["party"] for side in sides for kind in KINDS for it in side[kind] if it["properties"]["unit"] in units}
+    of_view = lambda name, it: it["properties"]["object"] in {"units": units, "parties": parties}[name] if name in ("units", "parties") else it["properties"]["unit"] in units
+    found = {}
+    for name in ("units", *KINDS, "parties"):
+        wanted = changed(*([it for it in side[name] if of_view(name, it)] for side in sides))
+        found[name] = len(wanted)
+        need(page.at.value(f"[...shown.other.changes.{name}.keys()].sort((one, two) => one - two)"), wanted, f"{name} that changed between revisions {number - 60} and {number}")
+        need(len(texts(page, f"#changes .{name} tbody tr")), len(wanted), f"{name} in the list of changes")
+    need(found["rights"] > 0, True, f"rights to look at: {found}")
+
+
+def amendments(lines):
+    """Three lines after those of a village: a party gets another name, a right another share, and another right ends."""
+    rights = [it for it in map(json.loads, lines) if "right" in it and it["do"] == "enter" and it["right"].get("party") and it["right"].get("share") == [1, 2]]
+    first, other = rights[0], next(it for it in rights if it["right"]["party"] != rights[0]["right"]["party"])
+    party = next(it for it in map(json.loads, lines) if it["object"] == first["right"]["party"])
+    made = [{"do": "amend", "object": party["object"], "first": "2025-01-01", "party": {**party["party"], "name": "Renamed"}},
+            {"do": "amend", "object": first["object"], "first": "2025-01-01", "right": {**first["right"], "share": [1, 3]}},
+            {"do": "retire", "object": other["object"], "last": "2025-01-31"}]
+    return [json.dumps(it, ensure_ascii=False) for it in made]
+
+
+def check_amendments(page, lines):
+    """Checks that a comparison shows what these lines changed, and nothing else."""
+    party, _, ended = (json.loads(it)["object"] for it in lines[-3:])
+    name = next(it["party"]["name"] for it in map(json.loads, lines) if it["object"] == party)
+    type_of = {it["object"]: it["right"]["code"] for it in map(json.loads, lines[:-3]) if "right" in it}
+    page.open(f"day=2025-06-01&revision={len(lines)}&against={len(lines) - 3}")
+    rows = lambda kind: page.at.value(f"[...document.querySelectorAll('#changes .{kind} tbody tr')].map((it) => [it.cells[0].textContent, it.cells[1].textContent])")
+    need([rows("parcels"), rows("parties")], [[], [["Renamed", f"version 1 to 2, name {name} to Renamed"]]], "a party with another name")
+    need(rows("rights")[0][1:], ["version 1 to 2, share den 2 to 3"], f"a right with another share: {rows('rights')}")
+    need([rows("rights")[1][0].startswith(type_of[ended]), rows("rights")[1][1], len(rows("rights"))], [True, "only at the earlier revision", 2], f"a right that ended: {rows('rights')}")
+    need([it for it in (f"revision={len(lines)}", f"revision={len(lines) - 3}", "/collections/rights/", "/collections/parties/") if it not in page.at.value("writeSheet(), document.getElementById('sheet').textContent")], [], "requests for rights and parties on the sheet")
+
+
+def check_compare(page, everything, number, before, after):
+    """Checks two revisions side by side, with the changed parcels in two colours. `before` and `after` have what the register had there."""
+    older, past = before["parcels"], after["parcels"]
     page.open(f"day={DAY}&revision={number}")
     page.press("whole")
+    drawn = int(page.at.value("canvas.dataset.drawn"))
     page.put("against", str(number - 60))
+    need(int(page.at.value("canvas.dataset.drawn")), drawn, "parcels in view, after the map got half of its room")
+    sentence = page.text("status")
+    need([f"revision {number} of" in sentence, f"revision {number - 60}." in sentence], [True, True], f"the revisions in {sentence}")
+    check_registered(page, number, after, before)
     old = {it["id"]: it for it in held_on(older, DAY)}
     new = {it["id"]: it for it in held_on(past, DAY)}
     inside = lambda it: page.at.value(f"(([x, y]) => {{ const box = sidesInView(); return box.left < x && x < box.right && box.low < y && y < box.high; }})({json.dumps(middle(it))})")
-    differ = sorted({it["properties"]["object"] for one, other in ((old, new), (new, old)) for it in one.values() if other.get(it["id"]) != it})
+    differ = changed(list(old.values()), list(new.values()))
     gone = [it for it in new.values() if it["properties"]["object"] in differ and inside(it)]
     need(len(differ) > 5 and len(gone) > 5, True, "changes to look at")
-    need(len(texts(page, "#changes tbody tr")), len(differ), "changes in view")
+    need(len(texts(page, "#changes .parcels tbody tr")), len(differ), "changes in view")
     need(page.text("changes").startswith(f"Revisions {number - 60} and {number}{len(differ)} parcels in view changed"), True, page.text("changes"))
     boxes = page.at.value("['other', 'canvas'].map((it) => { const box = document.getElementById(it).getBoundingClientRect(); return [box.left, box.width]; })")
     need([boxes[0][0] < boxes[1][0], abs(boxes[0][1] - boxes[1][1]) < 1], [True, True], "the earlier revision on the left")
-    after = colour_value(page, "--after")
+    later = colour_value(page, "--after")
     for it in gone[:5]:
-        need(page.colour(below_label(it))[:3], after, f"a changed parcel {it['properties']['label']}")
+        need(page.colour(below_label(it))[:3], later, f"a changed parcel {it['properties']['label']}")
     same = next(it for it in new.values() if old.get(it["id"]) == it and inside(it))
     need([page.colour(below_label(same))[:3], page.colour(below_label(same), "other")[:3]], [colour_value(page, "--unchanged")] * 2, "a parcel that did not change")
     # one command measured parcel 94 again
     page.open(f"day={DAY}&revision=370&against=369")
     need(page.at.value("[...document.querySelectorAll('#changes td')].map((it) => it.textContent)"), ["10/2", "version 1 to 2, area 994 m² to 993 m², reference point"], "what one command changed")
     mine = next(it for it in everything["parcels"] if it["id"] == "94.2")
-    need([page.colour(below_label(mine), "other")[:3], page.colour(below_label(mine))[:3]], [colour_value(page, "--before"), after], "a parcel at both revisions")
+    need([page.colour(below_label(mine), "other")[:3], page.colour(below_label(mine))[:3]], [colour_value(page, "--before"), later], "a parcel at both revisions")
+    # object 94 was entered by command 94
+    entered = next(it["properties"]["label"] for it in everything["parcels"] if it["properties"]["object"] == 94)
+    page.open(f"day={DAY}&revision=370&against=0&parcel=94")
+    need(texts(page, "#panel h2"), [f"Parcel {entered}"], "a parcel of the first map")
+    page.open(f"day={DAY}&revision=0&against=370")
+    click_other(page, mine)
+    need(texts(page, "#panel h2"), [f"Parcel {entered}"], "a parcel that is only on the other map")
     page.press("alone")
     need(page.at.value("document.getElementById('other-pane').hidden && document.getElementById('changes').hidden"), True, "one revision again")
+
+
+def click_other(page, feature):
+    """Clicks a parcel on the map of the other revision."""
+    x, y = page.at.value(f"(() => {{ const box = document.getElementById('other').getBoundingClientRect(); const [x, y] = toScreen({json.dumps(below_label(feature))}); return [box.left + x, box.top + y]; }})()")
+    page.at.click(x, y)
+    page.settle()
 
 
 def below_label(feature):
@@ -217,6 +313,40 @@ def check_today(page):
         page.press("today")
         need(page.at.value("day.value"), mine, f"today in {zone}")
     page.at.send("Emulation.setTimezoneOverride", timezoneId="")
+
+
+# ---- faults
+
+def fault_at(page, name):
+    """The message at a control, where it is visible and in the colour of faults, and the control is marked."""
+    place = "fault" if name == "filter" else f"{name}-fault"
+    looks = page.at.value(f"(() => {{ const it = document.getElementById('{place}'); const box = it.getBoundingClientRect(); const control = document.getElementById('{name}').getBoundingClientRect(); "
+                          f"return [it.textContent, getComputedStyle(it).color, box.height > 0 && Math.abs(box.top - control.bottom) < 60, document.getElementById('{name}').getAttribute('aria-invalid')]; }})()")
+    text, colour, is_near, is_invalid = looks
+    red, green, blue = (int(it) for it in re.findall(r"\d+", colour)[:3])
+    return text if red > 2 * max(green, blue) and is_near and is_invalid == "true" else ""
+
+
+def check_faults(page, everything, last):
+    """Checks that a control with a fault has a message at its place, and that the page goes on with what was accepted, also from a link."""
+    count = lambda day: f"{len(held_on(everything['parcels'], day)):,} parcels in view that held on {day}, as known at revision {last} of {last}."
+    page.open(f"day={DAY}&filter=area+%3E+1200+AND")
+    need([page.text("status"), fault_at(page, "filter").partition(":")[0]], [count(DAY), "EndOfFilter at byte 15"], "a link with a filter that has a fault")
+    need("without a filter" in page.text("fault"), True, f"what the map shows: {page.text('fault')}")
+    page.put("day", "1999-01-01", "change")
+    need(page.text("status"), count("1999-01-01"), "another day, with a filter that has a fault")
+    page.put("filter", "areas > 5")
+    need(page.at.value("(() => { const it = document.getElementById('names'); return [it.getBoundingClientRect().height > 0, it.textContent.includes('area,')]; })()"), [True, True], "the list of names at an unknown property")
+    page.open("day=2024-02-31")
+    need([page.text("status"), "2024-02-31 is no day" in fault_at(page, "day")], [count(page.at.value("today()")), True], "a link with a day that is none")
+    page.open(f"day={DAY}")
+    for name, text, words in (("revision", str(last + 1), f"a number from 0 to {last}"), ("revision", "x", f"a number from 0 to {last}"), ("against", str(last + 1), f"a number from 0 to {last}"), ("against", "-1", f"a number from 0 to {last}")):
+        page.put(name, text)
+        need([page.text("status"), words in fault_at(page, name)], [count(DAY), True], f"{name} {text}: {page.text(name + '-fault')}")
+        need(page.at.value("document.getElementById('other-pane').hidden"), True, "no second map")
+        page.put(name, "")
+        need(page.text(f"{name}-fault"), "", f"{name} without a fault")
+    page.at.complaints[:] = [it for it in page.at.complaints if "400" not in it]
 
 
 # ---- citations
@@ -307,11 +437,35 @@ CUT = """[...document.querySelectorAll("body *")].filter((it) => {
 }).map((it) => `${it.tagName} ${it.id}`)"""
 
 
+# How much of the screen the head takes, which buttons lie over a map, and the least air between two rows of controls.
+ROOM = """(() => {
+  const box = (it) => it.getBoundingClientRect();
+  const meet = (one, other) => one.left < other.right && other.left < one.right && one.top < other.bottom && other.top < one.bottom;
+  const maps = [...document.querySelectorAll("canvas")].map(box).filter((it) => it.width > 0);
+  const over = [...document.querySelectorAll("#map button, #map summary")].filter((it) => maps.some((map) => meet(box(it), map))).map((it) => it.id || it.tagName);
+  const rows = [...document.querySelectorAll("#asked .control")].map(box).filter((it) => it.height > 0).sort((one, other) => one.top - other.top);
+  const air = rows.slice(1).map((it, at) => it.top - Math.max(...rows.slice(0, at + 1).filter((one) => one.top < it.top - 1).map((one) => one.bottom), -Infinity)).filter((it) => Number.isFinite(it));
+  return { head: box(document.querySelector("header")).height / innerHeight, over, rows: rows.length, air: Math.min(...air, 1000) };
+})()"""
+
+
+def check_room(page):
+    """Checks that the controls of a phone are folded to a line and a button, and have air between them; and that no button lies over the map."""
+    folded = page.at.value(ROOM)
+    need([folded["head"] < 0.2, folded["over"], folded["rows"]], [True, [], 0], f"the room of the controls: {folded}")
+    page.press("fold")
+    opened = page.at.value(ROOM)
+    need([opened["over"], opened["rows"], opened["air"] >= 10, page.at.value(CUT)], [[], 4, True, []], f"the controls: {opened}")
+    page.press("fold")
+    need(page.at.value(ROOM)["rows"], 0, "the controls, folded again")
+
+
 def check_phone(page, everything, picture):
     """Checks that nothing is cut off at 390 by 844, and that fingers zoom, scroll and choose."""
     page.at.resize(390, 844, mobile=True)
     page.open(f"day={DAY}")
     need([page.at.value("innerWidth"), page.at.value(CUT)], [390, []], "what is cut off")
+    check_room(page)
     found = next(it for it in held_on(everything["parcels"], DAY) if it["properties"]["label"] == "Park")
     box = page.at.value("(({ left, top, width, height }) => [left, top, width, height])(canvas.getBoundingClientRect())")
     x, y = box[0] + box[2] / 2 + 20, box[1] + box[3] / 2 - 30

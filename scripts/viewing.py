@@ -5,6 +5,7 @@ The scripts that use it compare what the page shows with the register. Needs Deb
 import base64
 import contextlib
 import json
+import os
 import re
 import shutil
 import socket
@@ -18,6 +19,8 @@ import browser
 import served
 
 TOP = served.TOP
+# Another folder with the page, for scripts that must refuse a wrong one.
+VIEWER = os.environ.get("VIEWER") or str(TOP / "viewer")
 WIDTH, HEIGHT = 1280, 800
 
 
@@ -44,7 +47,7 @@ def proxy(folder, address):
     with socket.socket() as it:
         it.bind(("127.0.0.1", 0))
         port = it.getsockname()[1]
-    shutil.copytree(TOP / "viewer", folder / "share/viewer")
+    shutil.copytree(VIEWER, folder / "share/viewer")
     words = ["openssl", "req", "-x509", "-newkey", "rsa:2048", "-nodes", "-days", "2", "-subj", "/CN=land.example", "-keyout", folder / "key.pem", "-out", folder / "cert.pem"]
     subprocess.run(words, check=True, stderr=subprocess.DEVNULL)
     (folder / "users").write_text("ana:{PLAIN}secret\n", encoding="utf-8")

@@ -26,7 +26,8 @@ async function foundIn(collection, property, text, signal) {
   const objects = new Map();
   for (const it of pages.flatMap((it) => it.features)) {
     const { object } = it.properties;
-    if (holdsOn(it.properties) || !objects.has(object) || !holdsOn(objects.get(object).properties)) objects.set(object, it);
+    const isOfDay = (one) => holdsOn(one.properties, shown.asked.day);
+    if (isOfDay(it) || !objects.has(object) || !isOfDay(objects.get(object))) objects.set(object, it);
   }
   const features = [...objects.values()];
   return { features: features.slice(0, MOST_FOUND), isMore: features.length > MOST_FOUND || pages.some((it) => nextOf(it) !== undefined) };
@@ -34,7 +35,7 @@ async function foundIn(collection, property, text, signal) {
 
 function foundButton(kind, feature, name) {
   const it = feature.properties;
-  const more = holdsOn(it) ? "" : it.begin > day.value ? `, from ${it.begin} on` : `, until ${it.end}`;
+  const more = holdsOn(it, shown.asked.day) ? "" : it.begin > shown.asked.day ? `, from ${it.begin} on` : `, until ${it.end}`;
   const text = [element("strong", {}, name ?? "without a name"), ` ${kind}, object ${it.object}${more}`];
   const made = button("", "", () => {
     closeFound();

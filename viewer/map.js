@@ -15,8 +15,8 @@ function size() {
 }
 
 /** Where points of the plane are on a surface of this size, whose middle is the view's. */
-function placing({ width, height } = size(), scale = view.scale) {
-  return ([x, y]) => [(x - view.x) / scale + width / 2, height / 2 - (y - view.y) / scale];
+function placing({ width, height } = size(), at = view) {
+  return ([x, y]) => [(x - at.x) / at.scale + width / 2, height / 2 - (y - at.y) / at.scale];
 }
 
 function toScreen(point) {
@@ -118,8 +118,8 @@ function outlineOf(pixels) {
 
 function draw() {
   const colours = coloursOf(document.documentElement);
-  drawOn(canvas, shown.parcels, colours, isComparing() ? changes.sideOf(shown.revision) : null);
-  if (isComparing()) drawOn(by("other"), changes.parcels, colours, changes.sideOf(changes.revision));
+  drawOn(canvas, shown.parcels, colours, sideOf(shown.revision));
+  if (!by("other-pane").hidden) drawOn(by("other"), shown.other?.parcels ?? [], colours, shown.other && sideOf(shown.other.revision));
   drawScale();
 }
 
@@ -142,7 +142,7 @@ function paint(pen, parcels, look) {
     for (const it of parcels) paintShape(pen, it, look);
     paintLabels(pen, parcels, look);
   }
-  for (const it of chosen.outlined) {
+  for (const it of isPanelOfShown() ? chosen.outlined : []) {
     trace(pen, it, look.place);
     pen.strokeStyle = chosen.kind === "party" ? look.colours.held : look.colours.chosen;
     pen.lineWidth = 3;
@@ -159,7 +159,7 @@ function trace(pen, parcel, place) {
 }
 
 function fillOf(parcel, { colours, side }) {
-  if (side) return changes.byObject.has(parcel.properties.object) ? colours[side] : colours.unchanged;
+  if (side) return shown.other.changed.has(parcel.properties.object) ? colours[side] : colours.unchanged;
   const hue = (parcel.properties.unit * 137.508) % 360;
   const tone = parcel.properties.unit === chosen.unit ? colours["fill-of-unit"] : colours.fill;
   return `hsl(${hue.toFixed(1)} ${tone})`;
@@ -251,8 +251,8 @@ function move(x, y) {
 
 // ---- by hand
 
-/** Pointers on a canvas: one moves the map or chooses, two zoom about their middle. */
-function listenToPointers(surface, parcels) {
+/** Pointers on a canvas, that of the other revision or not: one moves the map or chooses, two zoom about their middle. */
+function listenToPointers(surface, isOfOther) {
   const pointers = new Map();
   let moved = 0;
   const middle = () => {
@@ -281,7 +281,7 @@ function listenToPointers(surface, parcels) {
     if (pointers.size === 2 && before.apart > 0 && after.apart > 0) zoom(before.apart / after.apart, after.left, after.top);
   });
   surface.addEventListener("pointerup", (event) => {
-    if (pointers.has(event.pointerId) && moved <= 4) chooseAt(event.offsetX, event.offsetY, parcels());
+    if (pointers.has(event.pointerId) && moved <= 4) chooseAt(event.offsetX, event.offsetY, isOfOther);
     pointers.delete(event.pointerId);
     surface.classList.remove("moving");
   });
@@ -293,8 +293,8 @@ function listenToPointers(surface, parcels) {
 }
 
 function listenToMap() {
-  listenToPointers(canvas, () => shown.parcels);
-  listenToPointers(by("other"), () => changes.parcels);
+  listenToPointers(canvas, false);
+  listenToPointers(by("other"), true);
   canvas.addEventListener("keydown", (event) => {
     if (event.ctrlKey || event.metaKey || event.altKey) return;
     const step = 80 * view.scale;
@@ -306,7 +306,7 @@ function listenToMap() {
       ArrowDown: () => move(0, -step),
       "+": () => zoom(0.5),
       "-": () => zoom(2),
-      Enter: () => chooseAt(width / 2, height / 2, shown.parcels),
+      Enter: () => chooseAt(width / 2, height / 2),
       n: () => chooseNext(1),
       p: () => chooseNext(-1),
     };
@@ -314,14 +314,10 @@ function listenToMap() {
     keys[event.key]();
     event.preventDefault();
   });
-  // the first report comes at the start, when all is requested anyway
-  let isFirst = true;
   new ResizeObserver(() => {
-    if (!isFirst) {
-      draw();
-      soon(load);
-    }
-    isFirst = false;
+    const { width, height } = size();
+    draw();
+    if (width !== requested?.width || height !== requested?.height) soon(load);
   }).observe(canvas);
   matchMedia("(prefers-color-scheme: dark)").addEventListener("change", draw);
 }

@@ -1,36 +1,43 @@
 // The panel: what is chosen, a parcel, a unit or a party, on the day and at the revision that the map shows.
 "use strict";
 
-/** What is chosen, the parcels that are outlined for it, for what the panel was written, and by which requests. */
-const chosen = { kind: null, object: null, unit: null, outlined: [], written: "", requests: [] };
+/** What is chosen, at the other revision or not, and for what the panel is being read. Then what it was written for, its requests, and the parcels that are outlined. */
+const chosen = { kind: null, object: null, unit: null, isOfOther: false, wanted: "", written: "", requests: [], outlined: [] };
 const KINDS = { rights: "Rights", restrictions: "Restrictions", responsibilities: "Responsibilities" };
 let writing = new AbortController();
 
-function holdsOn({ begin, end }) {
-  return !day.value || (begin <= day.value && (end === null || day.value <= end));
+/** Whether what is chosen is looked up at the other revision of a comparison. */
+function isOfOther() {
+  return chosen.isOfOther && shown.other !== null;
 }
 
-function onDay() {
-  return day.value ? `on ${day.value}` : "on any day";
+/** What the panel is read for. */
+function panelFor() {
+  return JSON.stringify([chosen.kind, chosen.object, shown.asked.day, isOfOther() ? shown.other.revision : shown.revision]);
+}
+
+/** Whether the panel was written for what is shown now. */
+function isPanelOfShown() {
+  return chosen.kind !== null && chosen.written === panelFor();
 }
 
 /** Chooses an object, and writes the panel. */
-async function choose(kind, object, unit = null) {
-  Object.assign(chosen, { kind, object, unit, outlined: [], written: "" });
+async function choose(kind, object, unit = null, isOther = isOfOther()) {
+  Object.assign(chosen, { kind, object, unit, isOfOther: isOther, outlined: [], wanted: "", written: "" });
   draw();
   writeAddress();
   await writePanel();
   if (matchMedia("(max-width: 900px)").matches) by("side").scrollIntoView({ block: "start" });
 }
 
-/** Chooses what lies at a point of the map: of the parcels that are drawn, or of the register where their density is. */
-async function chooseAt(left, top, parcels) {
+/** Chooses what lies at a point of the map, or of that of the other revision: of the parcels that are drawn, or of the register where their density is. */
+async function chooseAt(left, top, isOther = false) {
   const place = toPlane(left, top);
   try {
-    const some = shown.density && !isComparing() ? await parcelsAt(place) : parcels;
+    const some = shown.density ? await parcelsAt(place) : isOther ? shown.other?.parcels ?? [] : shown.parcels;
     const found = some.findLast((it) => holds(it, place));
     if (found) {
-      choose("parcel", found.properties.object, found.properties.unit);
+      choose("parcel", found.properties.object, found.properties.unit, isOther);
       return;
     }
     chooseNothing();
@@ -49,7 +56,7 @@ async function parcelsAt([x, y]) {
   by("panel").setAttribute("aria-busy", "true");
   try {
     const box = [Math.floor(x), Math.floor(y), Math.ceil(x), Math.ceil(y)].join(",");
-    return drawable((await listed("parcels", { ...conditions(), revision: shown.revision, bbox: box }, signal)).features);
+    return drawable((await listed("parcels", { ...parametersShown(), bbox: box }, signal)).features);
   } finally {
     if (!signal.aborted) by("panel").removeAttribute("aria-busy");
   }
@@ -57,7 +64,7 @@ async function parcelsAt([x, y]) {
 
 function chooseNothing() {
   writing.abort();
-  Object.assign(chosen, { kind: null, object: null, unit: null, outlined: [], written: "", requests: [] });
+  Object.assign(chosen, { kind: null, object: null, unit: null, isOfOther: false, wanted: "", written: "", requests: [], outlined: [] });
   by("panel").removeAttribute("aria-busy");
 }
 
@@ -66,29 +73,30 @@ function emptyPanel(text) {
   say(text);
 }
 
-/** Writes the panel for what is chosen, unless it is written already. */
+/** Writes the panel for what is chosen, unless it is written already or being read. */
 async function writePanel() {
-  const wanted = `${chosen.kind} ${chosen.object} ${day.value} ${shown.revision}`;
-  if (chosen.kind === null || wanted === chosen.written) return;
+  const wanted = panelFor();
+  if (chosen.kind === null || wanted === chosen.wanted) return;
   writing.abort();
   writing = new AbortController();
   const { signal } = writing;
   const panel = by("panel");
-  chosen.written = wanted;
-  chosen.requests = [];
+  chosen.wanted = wanted;
   panel.setAttribute("aria-busy", "true");
   try {
     const write = { parcel: parcelParts, unit: unitParts, party: partyParts }[chosen.kind];
-    const { parts, outlined, words, unit } = await write(chosen.object, { revision: shown.revision, datetime: day.value }, signal);
+    const [, object, day, revision] = JSON.parse(wanted);
+    const asked = { revision, datetime: day, requests: [] };
+    const { parts, outlined, words, unit } = await write(object, asked, signal);
     const hadFocus = panel.contains(document.activeElement);
-    panel.replaceChildren(...parts);
+    panel.replaceChildren(...(shown.other ? [element("p", { className: "none" }, `At revision ${revision}:`)] : []), ...parts);
     if (hadFocus) focusPanel();
-    Object.assign(chosen, { outlined, unit });
+    Object.assign(chosen, { outlined, unit, written: wanted, requests: asked.requests });
     draw();
     say(words);
   } catch (fault) {
     if (fault.name === "AbortError") return;
-    chosen.written = "";
+    Object.assign(chosen, { wanted: "", written: "" });
     emptyPanel(`This could not be read: ${fault.message}.`);
   } finally {
     if (!signal.aborted) panel.removeAttribute("aria-busy");
@@ -100,15 +108,15 @@ function focusPanel() {
   by("side").focus({ preventScroll: true });
 }
 
-/** The features for the panel; the sheet has the requests. */
-async function read(collection, parameters, signal) {
+/** Reads features for the panel; the sheet has the requests. */
+const reader = (requests) => async (collection, parameters, signal) => {
   const found = await listed(collection, parameters, signal);
-  chosen.requests.push(found.target);
+  requests.push(found.target);
   return found;
-}
+};
 
-function unknown(kind, object) {
-  const words = `At revision ${shown.revision} the register has no ${kind} with the number ${object}.`;
+function unknown(kind, object, revision) {
+  const words = `At revision ${revision} the register has no ${kind} with the number ${object}.`;
   return { parts: [element("p", { className: "hint" }, words)], outlined: [], words, unit: null };
 }
 
@@ -130,14 +138,14 @@ function fitButton(outlined) {
 
 // ---- a parcel
 
-async function parcelParts(object, asked, signal) {
-  const { features: versions } = await read("parcels", { revision: asked.revision, filter: `object = ${object}` }, signal);
-  if (!versions.length) return unknown("parcel", object);
-  const ofDay = versions.findLast((it) => holdsOn(it.properties));
+async function parcelParts(object, { revision, datetime, requests }, signal) {
+  const { features: versions } = await reader(requests)("parcels", { revision, filter: `object = ${object}` }, signal);
+  if (!versions.length) return unknown("parcel", object, revision);
+  const ofDay = versions.findLast((it) => holdsOn(it.properties, datetime));
   const now = ofDay ?? versions.at(-1);
   const { unit, label } = now.properties;
   const outlined = drawable([now]);
-  const rest = await partsOfUnit(unit, asked, signal);
+  const rest = await partsOfUnit(unit, { revision, datetime, requests }, signal);
   const rows = versions.map(({ id, properties: it }) => ({
     isShown: id === now.id,
     cells: [dayButton(it.begin), it.end ?? "open", it.label, areaOf(it.area)],
@@ -145,12 +153,12 @@ async function parcelParts(object, asked, signal) {
   const parts = [
     element("h2", {}, `Parcel ${label}`),
     element("p", {}, element("small", {}, `object ${object}, ${counted(versions.length, "version", "versions")}`)),
-    ...(ofDay ? [] : [element("p", { className: "none" }, `No version of it held ${onDay()}.`)]),
+    ...(ofDay ? [] : [element("p", { className: "none" }, `No version of it held ${onDay(datetime)}.`)]),
     ...fitButton(outlined),
     element("h3", {}, "Versions"),
-    barsOf(versions),
+    barsOf(versions, datetime),
     table(["from", "to", "label", "area"], rows),
-    historyOf(object),
+    historyOf(object, revision),
     ...rest.parts,
   ];
   return { parts, outlined, unit, words: `Parcel ${label}, object ${object}, ${counted(versions.length, "version", "versions")}. ${rest.words}` };
@@ -162,6 +170,7 @@ function areaOf(area) {
 
 function goToDay(text) {
   day.value = text;
+  noDay = "";
   load();
 }
 
@@ -173,24 +182,24 @@ function dayButton(text) {
 const numberOfDay = (text) => Date.parse(`${text}T00:00:00Z`) / 86400000;
 
 /** The versions as bars by day, the shown day as a line. */
-function barsOf(versions) {
+function barsOf(versions, onThis) {
   const days = versions.flatMap(({ properties: it }) => [it.begin, it.end ?? today()]);
-  const ends = [...days, day.value || today()].map(numberOfDay);
+  const ends = [...days, onThis || today()].map(numberOfDay);
   const [first, last] = [Math.min(...ends), Math.max(...ends)];
   const at = (number) => `${((100 * (number - first)) / Math.max(1, last - first)).toFixed(2)}%`;
   const rows = versions.map(({ properties: it }) => {
     const [from, to] = [numberOfDay(it.begin), it.end === null ? last : numberOfDay(it.end)];
     const words = `version ${it.number}: ${it.begin} to ${it.end ?? "open"}, ${it.label}, ${areaOf(it.area)}`;
     const bar = button("", words, () => goToDay(it.begin));
-    bar.className = holdsOn(it) ? "bar shown" : "bar";
+    bar.className = holdsOn(it, onThis) ? "bar shown" : "bar";
     bar.setAttribute("aria-label", words);
     bar.style.left = at(from);
     bar.style.width = at(first + Math.max(1, to - from));
     return element("div", { className: "lane" }, bar);
   });
   const line = element("span", { className: "of-day" });
-  line.hidden = !day.value;
-  if (day.value) line.style.left = at(numberOfDay(day.value));
+  line.hidden = !onThis;
+  if (onThis) line.style.left = at(numberOfDay(onThis));
   const year = (number) => new Date(number * 86400000).getUTCFullYear();
   const axis = element("p", { className: "axis" }, element("span", {}, String(year(first))), element("span", {}, String(year(last))));
   const lanes = element("div", { className: "lanes" }, ...rows, line);
@@ -203,7 +212,7 @@ function barsOf(versions) {
 // ---- what the register recorded
 
 /** A list of the revisions that entered, amended or ended a parcel. It is read when it is opened, by some requests for each. */
-function historyOf(object) {
+function historyOf(object, revision) {
   const body = element("div", {}, element("p", { className: "none" }, "Reading older revisions."));
   const made = element("details", { className: "history" }, element("summary", {}, "Changes by revision"), body);
   made.addEventListener("toggle", async () => {
@@ -212,7 +221,7 @@ function historyOf(object) {
     by("panel").setAttribute("aria-busy", "true");
     const { signal } = writing;
     try {
-      const steps = await stepsOf(object, shown.revision, signal);
+      const steps = await stepsOf(object, revision, signal);
       body.replaceChildren(table(["revision", "what changed"], steps.map((it) => ({ cells: [revisionButton(it.revision), changeOf(it)] }))));
     } catch (fault) {
       if (fault.name === "AbortError") return;
@@ -275,13 +284,14 @@ async function unitParts(unit, asked, signal) {
   return { parts, words, outlined, unit };
 }
 
-async function partsOfUnit(unit, asked, signal, head = "h3") {
+async function partsOfUnit(unit, { revision, datetime, requests }, signal, head = "h3") {
+  const [read, asked] = [reader(requests), { revision, datetime }];
   const ofUnit = { ...asked, filter: `unit = ${unit}` };
   const units = await read("units", { ...asked, filter: `object = ${unit}` }, signal);
   const held = {};
   for (const kind of Object.keys(KINDS)) held[kind] = await read(kind, ofUnit, signal);
   const parcels = await read("parcels", ofUnit, signal);
-  const parties = await partiesOf(Object.values(held).flatMap((it) => it.features), asked, signal);
+  const parties = await partiesOf(Object.values(held).flatMap((it) => it.features), asked, signal, read);
   const named = units.features.at(-1)?.properties.name;
   const count = counted(parcels.features.length, "parcel", "parcels") + (parcels.isMore ? " and more" : "");
   const title = named ? `Unit ${unit}: ${named}` : `Unit ${unit}`;
@@ -289,7 +299,7 @@ async function partsOfUnit(unit, asked, signal, head = "h3") {
   return {
     parts: [
       element(head, {}, head === "h2" ? title : unitButton(unit, title)),
-      element("p", { className: "none" }, units.features.length ? `${count} ${day.value ? "on this day" : "in all"}` : "No version of it held on this day."),
+      element("p", { className: "none" }, units.features.length ? `${count} ${datetime ? "on this day" : "in all"}` : "No version of it held on this day."),
       ...Object.keys(KINDS).flatMap((kind) => partsOfRights(KINDS[kind], held[kind], parties)),
     ],
     parcels: parcels.features,
@@ -298,7 +308,7 @@ async function partsOfUnit(unit, asked, signal, head = "h3") {
 }
 
 /** The parties of rights by their objects, as they were called on the day. */
-async function partiesOf(rights, asked, signal) {
+async function partiesOf(rights, asked, signal, read) {
   const objects = rights.map((it) => it.properties.party).filter((it) => it !== null);
   const features = await listedOf("parties", "object", objects, asked, signal, read);
   return new Map(features.map((it) => [it.properties.object, it.properties]));
@@ -335,10 +345,11 @@ function parcelButtons(features) {
 // ---- a party
 
 /** All that a party holds on the day: each right with its unit and the unit's parcels, which are outlined. */
-async function partyParts(party, asked, signal) {
-  const { features: versions } = await read("parties", { revision: asked.revision, filter: `object = ${party}` }, signal);
-  if (!versions.length) return unknown("party", party);
-  const now = (versions.findLast((it) => holdsOn(it.properties)) ?? versions.at(-1)).properties;
+async function partyParts(party, { revision, datetime, requests }, signal) {
+  const [read, asked] = [reader(requests), { revision, datetime }];
+  const { features: versions } = await read("parties", { revision, filter: `object = ${party}` }, signal);
+  if (!versions.length) return unknown("party", party, revision);
+  const now = (versions.findLast((it) => holdsOn(it.properties, datetime)) ?? versions.at(-1)).properties;
   const held = {};
   for (const kind of Object.keys(KINDS)) held[kind] = await read(kind, { ...asked, filter: `party = ${party}` }, signal);
   const units = Object.values(held).flatMap((it) => it.features.map((right) => right.properties.unit));
@@ -347,7 +358,7 @@ async function partyParts(party, asked, signal) {
   const name = now.name ?? `party ${party}`;
   const outlined = drawable(parcels);
   const objects = new Set(parcels.map((it) => it.properties.object));
-  const words = `${name} holds ${Object.keys(KINDS).map((kind) => `${held[kind].features.length.toLocaleString("en")} ${kind}`).join(", ")} ${onDay()}, in ${counted(objects.size, "parcel", "parcels")}.`;
+  const words = `${name} holds ${Object.keys(KINDS).map((kind) => `${held[kind].features.length.toLocaleString("en")} ${kind}`).join(", ")} ${onDay(datetime)}, in ${counted(objects.size, "parcel", "parcels")}.`;
   const parts = [
     element("h2", {}, name),
     element("p", {}, element("small", {}, `object ${party}, ${now.type}`)),

@@ -7,27 +7,22 @@ const MOST_ROWS = 5000;
 // Coordinates are whole millimetres, at most so many in each direction.
 const FARTHEST = 100000000000;
 
+/** What is wrong with a filter, and what would be right. */
 const CAUSES = {
-  Unterminated: "a quote is opened here and never closed",
-  StrangeCharacter: "nothing in a filter begins with this character",
+  Unterminated: "a quote is opened here and never closed: write another one at the end of the text or the name",
+  StrangeCharacter: "nothing in a filter begins with this character: texts are in '..', and other names in \"..\"",
   TooLong: "a filter has at most 8,192 bytes",
   TooMany: "a filter has at most 2,000 words, numbers and signs",
   TooDeep: "at most 64 parentheses may be open at one time",
-  NotExpected: "no filter goes on with this",
-  EndOfFilter: "the filter stops too early: something has to follow",
-  UnknownProperty: "parcels have no property of this name",
-  WrongKind: "this is of another kind than is needed here",
-  NotADate: "this is no day of the calendar; days are written as 2001-02-28",
-  NotWhole: "numbers are whole here",
+  NotExpected: "no filter goes on with this: between two conditions are AND or OR, as in area > 400 AND unit = 10",
+  EndOfFilter: "the filter stops too early: something has to follow, as in area > 400",
+  UnknownProperty: "parcels have no property of this name: write one of the names below",
+  WrongKind: "this is of another kind than is needed here: texts are in '..', numbers are not, and days are DATE('2001-02-28')",
+  NotADate: "this is no day of the calendar: days are written as 2001-02-28",
+  NotWhole: "numbers are whole here: write one without a fraction",
   NumberTooLarge: "this number is too large",
-  BadShape: "these coordinates make no point, polygon or box",
-  EndsTurned: "this interval ends before it begins",
-};
-
-const FAULTS = {
-  datetime: "this is no day",
-  revision: "there is no such revision",
-  limit: "the page is larger than the server allows",
+  BadShape: "these coordinates make no point, polygon or box: write them as BBOX(0, 0, 20000, 20000)",
+  EndsTurned: "this interval ends before it begins: write the earlier day first",
 };
 
 const by = (id) => document.getElementById(id);
@@ -38,6 +33,14 @@ class Refused extends Error {
     super(body.fault || `status ${status}`);
     this.status = status;
     this.body = body;
+  }
+}
+
+/** A text of the address, or what is written in the field, that is no day. */
+class NoDay extends Error {
+  constructor(text) {
+    super("no day");
+    this.text = text;
   }
 }
 

@@ -6,16 +6,24 @@ const filter = by("filter");
 const revision = by("revision");
 const against = by("against");
 const slider = by("slider");
+const CONTROLS = { day, revision, against, filter };
 const NOWHERE = { left: 0, low: 0, right: 0, high: 0 };
 
-/** What was drawn last: the parcels, their revision, the newest known revision, the filter, how many came, the pages that are left, and the density if there are too many to draw. */
-const shown = { parcels: [], revision: 0, inForce: 0, filter: "", came: 0, rest: null, target: "", density: null };
 /** The parcels that a filter takes anywhere, and for which request they were read. */
 const everywhere = { target: "", parcels: [], isMore: false };
 let loading = new AbortController();
+/** The size of the map for which parcels were requested last. */
+let requested = null;
+/** A day in the address that is none. The field can't hold it. */
+let noDay = "";
 
+/** What the controls say. */
 function conditions() {
-  return { datetime: day.value, filter: filter.value.trim() && filter.value, revision: revision.value.trim() };
+  return { day: day.value, revision: revision.value.trim(), against: against.value.trim(), filter: filter.value.trim() && filter.value };
+}
+
+function parametersOf(asked) {
+  return { datetime: asked.day, filter: asked.filter, revision: asked.revision };
 }
 
 // ---- what is in view
@@ -32,7 +40,7 @@ function begin() {
 
 function finish() {
   delete document.body.dataset.busy;
-  by("count").hidden = !shown.rest;
+  by("count").hidden = !shown.rest || shown.other !== null;
 }
 
 /** Calls the work once nothing has asked for it for a moment. */
@@ -41,21 +49,17 @@ function soon(work) {
   soon.timer = setTimeout(work, 200);
 }
 
-/** Requests the parcels in view and draws them page by page, or their density if there are too many. */
+/** Requests what the controls say for the view. A control with a fault keeps what was accepted last, and says so. */
 async function load() {
   const signal = begin();
-  setPanes();
-  writeAddress();
-  const asked = { ...conditions(), bbox: boxInView(), limit: ON_A_PAGE };
+  const faults = new Map();
   try {
-    await follow(targetOf("parcels", asked), signal);
-    shown.density = shown.rest ? await sample({ ...asked, revision: shown.revision }, signal) : null;
-    await compare(signal);
+    await accepted(faults, (it) => answer(it, faults, signal));
     await lookOutside(signal);
-    draw();
-    writeStatus();
-    writeFault(null);
-    writeList();
+    drawShown();
+    writeFaults(faults);
+    writeTrouble("");
+    writeAddress();
     finish();
     writePanel();
   } catch (fault) {
@@ -63,25 +67,79 @@ async function load() {
   }
 }
 
-/** Follows the pages from a target on, until as many parcels came as are drawn. */
-async function follow(first, signal) {
-  const [parcels, asked] = [[], filter.value.trim()];
-  let [came, target] = [0, first];
+/** Does the work for what the controls say. Where the server rejects a control, it is done again with what was accepted of it last. */
+async function accepted(faults, work) {
+  let asked = { ...conditions() };
+  for (const [name, fault] of faultsOf(asked)) {
+    faults.set(name, fault);
+    asked = { ...asked, [name]: shown.asked[name] };
+  }
+  while (true) {
+    try {
+      await work(asked);
+      return asked;
+    } catch (fault) {
+      const name = fault.name !== "AbortError" && controlOf(fault);
+      if (!name || faults.has(name)) throw fault;
+      faults.set(name, fault);
+      if (name === "filter") Object.assign(rejected, { filter: asked.filter, fault });
+      asked = { ...asked, [name]: shown.asked[name] };
+    }
+  }
+}
+
+/** The filter that the server rejected last, and why. The answer to it stays the same. */
+const rejected = { filter: "", fault: null };
+
+/** The faults that are plain without a request. */
+function* faultsOf(asked) {
+  if (asked.filter && asked.filter === rejected.filter) yield ["filter", rejected.fault];
+  if (noDay || day.validity.badInput) yield ["day", new NoDay(noDay)];
+  for (const name of ["revision", "against"]) if (asked[name] && !/^\d{1,18}$/.test(asked[name])) yield [name, new Refused(400, { fault: "revision" })];
+}
+
+/** The control that the server rejects. */
+function controlOf(fault) {
+  if (!(fault instanceof Refused)) return null;
+  return fault.isOfOther ? "against" : { filter: "filter", datetime: "day", revision: "revision" }[fault.body.fault];
+}
+
+/** Requests the parcels in view, and shows them page by page, or their density if there are too many. Two revisions are shown once both came. */
+async function answer(asked, faults, signal) {
+  if (asked.against !== shown.asked.against) await needOther(asked.against, signal);
+  setPanes(asked.against !== "");
+  requested = size();
+  const target = targetOf("parcels", { ...parametersOf(asked), bbox: boxInView(), limit: ON_A_PAGE });
+  // what is shown stays, where nothing but a fault is new
+  if (faults.size && target === shown.target && asked.against === shown.asked.against) return;
+  const value = await follow({ asked: Object.freeze(asked), view: { ...view }, target }, signal);
+  if (asked.against) show({ ...value, other: await compared(value, signal) });
+  else if (value.rest) show({ ...value, density: await sample(signal) });
+}
+
+/** Follows the pages of a value's target, until as many parcels came as are drawn. */
+async function follow(value, signal) {
+  const parcels = [];
+  let [came, target, made] = [0, value.target, null];
   while (target && came < MOST_SHAPES) {
     const body = await page(target, signal);
     came += body.features.length;
     parcels.push(...body.features.slice(0, MOST_SHAPES - parcels.length).map(parcelOf));
-    target = nextOf(body);
-    shown.inForce = Math.max(shown.inForce, body.revision);
-    Object.assign(shown, { parcels, came, filter: asked, revision: body.revision, rest: target ?? null, target: first });
-    draw();
-    writeStatus();
+    target = nextOf(body) ?? null;
+    made = { ...value, parcels: [...parcels], came, rest: target, revision: body.revision, inForce: Math.max(shown.inForce, body.revision), density: null, other: null };
+    if (!value.asked.against) {
+      show(made);
+      drawShown();
+    }
   }
+  return made;
 }
 
 /** Where some of the parcels in view lie, one in so many by their numbers; nothing if the server rejects the longer filter. */
-async function sample(asked, signal) {
-  const onlyEach = (number) => ({ ...asked, filter: `${asked.filter ? `(${asked.filter}) AND ` : ""}object % ${number} = 0` });
+async function sample(signal) {
+  const { filter: taken } = shown.asked;
+  const box = new URLSearchParams(shown.target.split("?")[1]).get("bbox");
+  const onlyEach = (number) => ({ ...parametersShown(), filter: `${taken ? `(${taken}) AND ` : ""}object % ${number} = 0`, bbox: box, limit: ON_A_PAGE });
   try {
     let some = 997;
     let body = await page(targetOf("parcels", onlyEach(some)), signal);
@@ -111,13 +169,11 @@ async function countAll() {
     while (shown.rest) {
       const body = await page(shown.rest, signal);
       points.push(...body.features.map(pointOf));
-      shown.came += body.features.length;
-      shown.rest = nextOf(body) ?? null;
+      show({ ...shown, came: shown.came + body.features.length, rest: nextOf(body) ?? null });
       writeStatus();
     }
-    shown.density = { points, one: 1 };
-    draw();
-    writeStatus();
+    show({ ...shown, density: { points, one: 1 } });
+    drawShown();
     finish();
   } catch (fault) {
     failed(fault);
@@ -127,14 +183,13 @@ async function countAll() {
 /** Writes how many parcels that the filter takes lie outside of the view, and on which sides. */
 async function lookOutside(signal) {
   const place = by("outside");
-  if (!shown.filter || shown.rest) {
+  if (!shown.asked.filter || shown.rest) {
     place.replaceChildren();
     return;
   }
-  const asked = { ...conditions(), revision: shown.revision };
-  const target = targetOf("parcels", asked);
+  const target = targetOf("parcels", parametersShown());
   if (everywhere.target !== target) {
-    const { features, isMore } = await listed("parcels", asked, signal);
+    const { features, isMore } = await listed("parcels", parametersShown(), signal);
     Object.assign(everywhere, { target, isMore, parcels: features.map((it) => ({ id: it.id, box: it.geometry && boundsOf(it.geometry.coordinates) })) });
   }
   const inView = new Set(shown.parcels.map((it) => it.id));
@@ -163,24 +218,26 @@ function sidesOf(outside) {
 function failed(fault) {
   if (fault.name === "AbortError") return;
   finish();
-  writeFault(fault);
+  // some pages may have come before the fault
+  writeAddress();
+  const words = fault instanceof Refused ? (fault.status >= 500 ? "The server can't answer now" : "The server doesn't take this request") : "The server can't be reached";
+  writeTrouble(`${words} (${fault.message}). The page shows what came last.`);
+}
+
+/** Draws and writes all that is shown, except for the panel. */
+function drawShown() {
+  draw();
+  writeStatus();
+  writeChanges();
+  writeList();
 }
 
 function writeStatus() {
-  const held = (day.value ? `held on ${day.value}` : "ever held") + (shown.filter ? ` and for which ${shown.filter}` : "");
-  const known = `as known at revision ${shown.revision} of ${shown.inForce}`;
-  const count = shown.parcels.length;
-  const { density } = shown;
-  const all = counted(shown.came, "parcel", "parcels");
-  let text = `${all} in view that ${held}, ${known}.`;
-  if (shown.rest && count < MOST_SHAPES) text = `${counted(count, "parcel", "parcels")} in view that ${held} came so far, ${known}.`;
-  else if (shown.rest && shown.came > count) text = `${all} in view that ${held} are counted so far, ${known}.`;
-  else if (shown.rest && density) text = `More than ${all} in view that ${held}, ${known}. Their density is drawn, from one in ${density.one}: zoom in to see each.`;
-  else if (shown.rest) text = `The first ${counted(count, "parcel", "parcels")} in view that ${held} are drawn, ${known}. More are left: zoom in to see them.`;
-  else if (density) text += " Their density is drawn.";
+  const text = wordsOf(shown);
   by("status").textContent = text;
-  by("request").href = citedRequest(shown.target);
-  canvas.dataset.drawn = density ? 0 : count;
+  by("summary").textContent = [shown.asked.day || "Every day", `revision ${shown.revision} of ${shown.inForce}`, ...(shown.other ? [`and ${shown.other.revision}`] : []), shown.asked.filter.trim()].filter((it) => it).join(", ");
+  by("request").href = citedRequest(shown.target, shown.revision);
+  canvas.dataset.drawn = shown.density ? 0 : shown.parcels.length;
   canvas.dataset.came = shown.came;
   canvas.setAttribute("aria-label", `Map of the parcels: ${text}`);
   writeRevision();
@@ -191,26 +248,50 @@ function writeRevision() {
   slider.value = revision.value === "" ? shown.inForce : shown.revision;
   by("revision-of").textContent = `${shown.revision} of ${shown.inForce}`;
   by("latest").setAttribute("aria-pressed", revision.value === "");
-  by("every-day").setAttribute("aria-pressed", day.value === "");
+  by("every-day").setAttribute("aria-pressed", shown.asked.day === "");
   by("earlier").disabled = shown.revision <= 0;
   by("later").disabled = shown.revision >= shown.inForce;
+  by("alone").disabled = against.value.trim() === "";
 }
 
-function writeFault(fault) {
-  const isOfFilter = fault instanceof Refused && fault.body.fault === "filter";
-  filter.setAttribute("aria-invalid", isOfFilter);
-  by("marks").replaceChildren();
-  by("fault").textContent = "";
-  if (isOfFilter) {
-    mark(fault.body.place);
-    const words = CAUSES[fault.body.cause] ?? "this is no filter";
-    by("fault").textContent = `${fault.body.cause} at byte ${fault.body.place}: ${words}. The map shows the last filter that was accepted.`;
-  } else if (fault instanceof Refused) {
-    const words = FAULTS[fault.body.fault] ?? (fault.status >= 500 ? "the server can't answer now" : "the server doesn't take this request");
-    by("status").textContent = `${fault.message}: ${words}.`;
-  } else if (fault) {
-    by("status").textContent = `The server can't be reached: ${fault.message}.`;
+/** Writes each fault at its control, with what would be right and what is shown in its place. */
+function writeFaults(faults) {
+  for (const [name, control] of Object.entries(CONTROLS)) {
+    const fault = faults.get(name);
+    const place = by(name === "filter" ? "fault" : `${name}-fault`);
+    control.setAttribute("aria-invalid", fault !== undefined);
+    // a screen reader says a text again if it is written again
+    const words = fault ? `${RIGHT[name](fault)} ${INSTEAD[name]()}` : "";
+    if (place.textContent !== words) place.textContent = words;
   }
+  const fault = faults.get("filter");
+  by("names").classList.toggle("needed", fault?.body.cause === "UnknownProperty");
+  by("marks").replaceChildren();
+  if (fault) mark(fault.body.place);
+  if (faults.size) unfold(true);
+}
+
+const revisionWords = (text) => `There is no revision ${text}: write a number from 0 to ${shown.inForce}`;
+
+/** What is wrong with a control, and what would be right. */
+const RIGHT = {
+  day: ({ text }) => `${text ? `${text} is no day` : "This is no day"}: write one from 0001-01-01 to 9999-12-31, such as 2001-02-28.`,
+  revision: () => `${revisionWords(revision.value.trim())}, or nothing for the latest.`,
+  against: () => `${revisionWords(against.value.trim())}, or nothing.`,
+  filter: ({ body }) => `${body.cause} at byte ${body.place}: ${CAUSES[body.cause] ?? "this is no filter"}.`,
+};
+
+/** What the page shows in place of a control with a fault. */
+const INSTEAD = {
+  day: () => `The map shows ${shown.asked.day || "every day"}.`,
+  revision: () => `The map shows revision ${shown.revision}.`,
+  against: () => (shown.other ? `The map shows revision ${shown.other.revision} beside it.` : "The map compares nothing."),
+  filter: () => (shown.asked.filter ? `The map shows the last filter that was accepted: ${shown.asked.filter.trim()}` : "The map shows all parcels, without a filter."),
+};
+
+/** Says what keeps the page from showing what is asked for, and is no fault of a control. */
+function writeTrouble(text) {
+  by("trouble").textContent = text;
 }
 
 /** Underlines the word of the filter at a byte, or its end. */
@@ -234,14 +315,24 @@ function mark(place) {
 /** Brings all parcels that the day, the revision and the filter take into view: by their page if one has them, else by requests for what lies beyond. */
 async function fitAll() {
   const signal = begin();
+  let boxes = [];
   try {
-    const whole = await boxOfAll(conditions(), signal);
-    if (whole) fit(whole);
-    return whole !== null;
+    const asked = await accepted(new Map(), async (it) => (boxes = await boxesOf(it, signal)));
+    // a filter that takes nothing has no box
+    if (!boxes.length && asked.filter && !shown.target) boxes = await boxesOf({ ...asked, filter: "" }, signal);
+    if (boxes.length) fit(joined(boxes));
   } catch (fault) {
     failed(fault);
-    return false;
   }
+}
+
+/** The boxes round all parcels at the revision and at the other one, where there are some. */
+async function boxesOf(asked, signal) {
+  await needOther(asked.against, signal);
+  const revisions = asked.against ? [asked.revision, asked.against] : [asked.revision];
+  const boxes = [];
+  for (const it of revisions) boxes.push(await boxOfAll({ ...parametersOf(asked), revision: it }, signal));
+  return boxes.filter((it) => it);
 }
 
 async function boxOfAll(asked, signal) {
@@ -287,18 +378,22 @@ async function beyond(known, asked, signal) {
 // The control that is being written in; what it changes makes one entry of the history.
 let written = null;
 let lastWritten = null;
+/** Whether the page follows an address, which then makes no entry of its own. */
+let isFollowing = true;
 
-/** The address of what is shown, without its #. */
-function addressOf(atRevision) {
-  const place = [view.x, view.y, view.scale].map((it) => Number(it.toPrecision(13))).join(",");
-  const said = { day: day.value, revision: atRevision, against: against.value.trim(), filter: filter.value, at: place };
+/** The address of what is shown at revisions of these names, without its #. */
+function addressOf({ revision: ofFirst, against: ofOther }) {
+  const place = [shown.view.x, shown.view.y, shown.view.scale].map((it) => Number(it.toPrecision(13))).join(",");
+  const said = { day: shown.asked.day, revision: ofFirst, against: ofOther, filter: shown.asked.filter, at: place };
   if (chosen.kind) said[chosen.kind] = chosen.object;
+  if (chosen.kind && isOfOther()) said.pane = "other";
   return new URLSearchParams(Object.entries(said).filter(([name, value]) => value !== "" || name === "day")).toString();
 }
 
-/** Keeps in the address what is requested and what is in view. A move of the map makes no entry of the history of its own. */
+/** Keeps in the address what is shown and what is in view. A move of the map makes no entry of the history of its own. */
 function writeAddress() {
-  const made = addressOf(revision.value.trim());
+  if (!shown.view) return;
+  const made = addressOf(shown.asked);
   const old = location.hash.slice(1);
   if (made === old) return;
   const besides = (text) => {
@@ -306,7 +401,7 @@ function writeAddress() {
     said.delete("at");
     return said.toString();
   };
-  const isSame = !document.body.dataset.ready || besides(made) === besides(old) || (written && written === lastWritten);
+  const isSame = isFollowing || besides(made) === besides(old) || (written && written === lastWritten);
   history[isSame ? "replaceState" : "pushState"](null, "", `#${made}`);
   lastWritten = written;
 }
@@ -314,7 +409,10 @@ function writeAddress() {
 /** Takes what the address says; whether it says what is in view. */
 function readAddress() {
   const said = new URLSearchParams(location.hash.slice(1));
-  day.value = said.has("day") ? said.get("day") : today();
+  const text = said.get("day") ?? today();
+  day.value = text;
+  noDay = day.value === text ? "" : text;
+  if (noDay) day.value = shown.asked.day;
   revision.value = said.get("revision") ?? "";
   against.value = said.get("against") ?? "";
   filter.value = said.get("filter") ?? "";
@@ -325,7 +423,7 @@ function readAddress() {
     Object.assign(chosen, { kind, object });
     if (!kind) emptyPanel("Click a parcel to see its versions, and the rights, restrictions and responsibilities of its unit.");
   }
-  setPanes();
+  chosen.isOfOther = said.get("pane") === "other";
   const [x, y, scale] = (said.get("at") ?? "").split(",").map(Number);
   if (!(scale > 0) || !Number.isFinite(x + y)) return false;
   Object.assign(view, { x, y, scale });
@@ -333,9 +431,13 @@ function readAddress() {
 }
 
 async function followAddress() {
+  isFollowing = true;
   const hasView = readAddress();
-  if (!hasView) await fitAll();
+  // the view of the address is that of its panes
+  if (hasView) setPanes(against.value.trim() !== "", true);
+  else await fitAll();
   await load();
+  isFollowing = false;
 }
 
 // ---- controls
@@ -346,7 +448,15 @@ function goToRevision(number) {
   soon(load);
 }
 
+/** Shows or hides the controls on a narrow page, where they are folded. */
+function unfold(isOpen) {
+  by("asked").classList.toggle("open", isOpen);
+  by("fold").setAttribute("aria-expanded", isOpen);
+  by("fold").textContent = isOpen ? "Done" : "Change";
+}
+
 function listenToControls() {
+  for (const it of ["input", "change"]) day.addEventListener(it, () => (noDay = ""));
   day.addEventListener("change", load);
   by("today").addEventListener("click", () => goToDay(today()));
   by("every-day").addEventListener("click", () => goToDay(""));
@@ -369,6 +479,7 @@ function listenToControls() {
   by("asked").addEventListener("input", (event) => (written = event.target.id));
   by("asked").addEventListener("click", () => (written = null));
   by("asked").addEventListener("focusout", () => (written = null));
+  by("fold").addEventListener("click", () => unfold(!by("asked").classList.contains("open")));
   by("closer").addEventListener("click", () => zoom(0.5));
   by("farther").addEventListener("click", () => zoom(2));
   by("whole").addEventListener("click", showAll);
@@ -384,30 +495,18 @@ async function writeNames() {
 }
 
 async function start() {
-  const hasView = readAddress();
   listenToControls();
   listenToFind();
   listenToCitation();
   writeNames().catch(() => {});
   try {
-    shown.inForce = (await page(targetOf("parcels", { limit: 1 }))).revision;
+    show({ ...shown, inForce: (await page(targetOf("parcels", { limit: 1 }))).revision });
   } catch (fault) {
     failed(fault);
   }
-  // a filter that takes nothing has no box
-  if (!hasView && !(await fitAll()) && filter.value) await fitWithout();
+  await followAddress();
   listenToMap();
-  await load();
   document.body.dataset.ready = "yes";
-}
-
-async function fitWithout() {
-  try {
-    const whole = await boxOfAll({ ...conditions(), filter: "" }, begin());
-    if (whole) fit(whole);
-  } catch (fault) {
-    failed(fault);
-  }
 }
 
 start();
