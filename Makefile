@@ -75,6 +75,7 @@ early: cases
 
 # The whole gate. It runs:
 # - `make early`, every proof from nothing, the must-fail edits, and the tests;
+# - those tests again over three wrong bodies, which always report out of memory, a refusal of the database, or a failed read: one must fail;
 # - each program, as two compilers build it;
 # - the server's cases in pieces of bounded work, with the next line between the beginning and the end of each response;
 # - each request for features of the cases at every revision of its register;
@@ -82,6 +83,7 @@ early: cases
 # - the office with a stop at each call of its files, and a database that is refused memory.
 test: early
 	$(RT) ci
+	scripts/tests_refuse cad_desk/always_want_of_memory cad_register/always_refused_by_the_database cad_serve/every_read_fails
 	scripts/check_pieces
 	scripts/check_changes
 	scripts/check_revisions

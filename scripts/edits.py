@@ -50,3 +50,44 @@ def turned(edit, folder=None):
     if not pairs:
         why.append("it changes nothing")
     return texts, why
+
+
+def changed(edit):
+    """The lines that the edit changes: what each becomes, by pairs of a file and a number from 0."""
+    texts, why = turned(edit)
+    if why:
+        raise SystemExit(f"{edit}: {why[0]}")
+    found = {}
+    for path, text in texts.items():
+        with open(f"{TOP}/crates/{crate_of(edit)}/{path}", encoding="utf-8", newline="") as it:
+            was = it.read().split("\n")
+        found |= {(path, at): new for at, (old, new) in enumerate(zip(was, text.split("\n"), strict=True)) if old != new}
+    return found
+
+
+def apart(todo, at):
+    """As many of the edits as change different places, by the places of each."""
+    chosen, taken = [], set()
+    for edit in todo:
+        if not set(at[edit]) & taken:
+            chosen.append(edit)
+            taken |= set(at[edit])
+    return chosen
+
+
+def in_place(crate, chosen, call):
+    """The result of the call while these edits, which change different lines, are in place."""
+    folder, kept = f"{TOP}/crates/{crate}", {}
+    lines = {place: new for edit in chosen for place, new in changed(edit).items()}
+    try:
+        for path in {it[0] for it in lines}:
+            with open(f"{folder}/{path}", encoding="utf-8", newline="") as it:
+                kept[path] = it.read()
+            text = [lines.get((path, at), old) for at, old in enumerate(kept[path].split("\n"))]
+            with open(f"{folder}/{path}", "w", encoding="utf-8", newline="") as it:
+                it.write("\n".join(text))
+        return call()
+    finally:
+        for path, text in kept.items():
+            with open(f"{folder}/{path}", "w", encoding="utf-8", newline="") as it:
+                it.write(text)
