@@ -1,5 +1,5 @@
 -- What one entry more changes of what is told.
-use Rattle.std.proofs.Common.{◌≡◌, ◌≢◌, ℕ, zero, suc, ◌+◌, ◌==◌, ◌<◌, Bool, true, false, cond, List, [], ◌∷◌, ◌++◌, length, get_or, set, map, Option, Some, None, option_map, is_none, refl, sym, ap, ap₂, ◌∙◌, arith, add-one}
+use Rattle.std.proofs.Common.{◌≡◌, ◌≢◌, ℕ, zero, suc, ◌+◌, ◌==◌, ◌<◌, Bool, true, false, cond, List, [], ◌∷◌, ◌++◌, length, get_or, set, map, Option, Some, None, option_map, is_none, refl, sym, ap, ap₂, ◌∙◌, arith}
 use Rattle.std.proofs.lemmas.Bool.Decides.{nat_tests}
 use Rattle.cad_day.specs.declared.day.Day.{Day}
 use Rattle.cad_versions.specs.declared.object_id.ObjectId.{ObjectId}
@@ -178,12 +178,6 @@ undated_in behind v entered closed is os = none_in behind (record { version = v;
     none : (r : ℕ) → cond (closed == r) (ending v) None ≡ None
     none r = ap (λ last. cond (closed == r) (option_map (λ d. Retire v.object d) last) None) is ∙ elim (closed == r) as (λ t. cond {A = Option Command} t None None ≡ None) [ true ↦ refl | false ↦ refl ]
 
--- ---- nothing told at first
-
-pub nothing_more : (behind count : ℕ) → commands_behind behind (count + 1) [] ≡ commands_behind behind count [] ++ None ∷ []
-nothing_more behind zero = refl
-nothing_more behind (suc count) = ap (λ n. commands_behind behind n []) (add-one (suc count)) ∙ ap (λ l. None ∷ l) (ap (λ n. commands_behind (behind + 1) n []) (sym (add-one count)) ∙ nothing_more (behind + 1) count)
-
 -- ---- all that is told
 
 pub some_same : (xs ys : List Command) → map Some xs ≡ map Some ys → xs ≡ ys
@@ -191,12 +185,6 @@ some_same [] [] e = refl
 some_same [] (y ∷ ys) e = absurd cc
 some_same (x ∷ xs) [] e = absurd cc
 some_same (x ∷ xs) (y ∷ ys) e = let heads : x ≡ y = cc in let tails : map Some xs ≡ map Some ys = cc in ap₂ ◌∷◌ heads (some_same xs ys tails)
-
-pub none_there : (front back : List (Option Command)) (cs : List Command) → map Some cs ≢ front ++ None ∷ back
-none_there [] back [] e = cc
-none_there [] back (c ∷ cs) e = cc
-none_there (o ∷ front) back [] e = cc
-none_there (o ∷ front) back (c ∷ cs) e = none_there front back cs cc
 
 -- ---- what is put where
 

@@ -9,6 +9,8 @@ use Rattle.cad_versions.specs.declared.command.Command.{Command}
 use Rattle.cad_versions.specs.declared.fault.RegisterFault.{RegisterFault}
 use Rattle.cad_versions.specs.VersionedObject.{VersionedObject}
 use Rattle.cad_versions.specs.AsOf.{as_of}
+use Rattle.cad_tables.specs.Opening.{IsSettled}
+use Rattle.cad_versions.specs.Keeping.{IsAnswered}
 use Rattle.cad_register.specs.Leaving.{AsksOnly}
 use Rattle.cad_register.specs.Refusing.{Asks, IsForLines}
 use Rattle.cad_register.specs.Stands.{Tells, IsStoreFault, IsReadingFault}
@@ -26,6 +28,7 @@ module _ {S : Type 0} (g : Ghosts S) where
     told = λ clean commands stands. (tells commands, stands);
     asked = λ clean commands stands. settled_here g held stands.live;
     leaves = asks_nothing (state g held) (Ok x);
+    settled = λ clean live answered. settled_here g held live;
     known = tt;
   }
 
@@ -37,6 +40,7 @@ module _ {S : Type 0} (g : Ghosts S) where
         told = λ clean commands stands. let told = answers.told clean commands stands in (makes commands told.0, told.1);
         asked = answers.asked;
         leaves = asks_as (state g old) (state g new) (Ok x) (Ok y) (λ is. tt) answers.leaves;
+        settled = answers.settled;
         known = tt;
       }
 
@@ -46,6 +50,7 @@ module _ {S : Type 0} (g : Ghosts S) where
         told = λ clean commands stands. let told = answers.told clean commands stands in (fails commands told.0, λ live. told.1);
         asked = λ clean commands stands store. absurd (subst IsDecided store decided);
         leaves = asks_as (state g old) (state g new) (Ok x) (Err cause) (λ is. tt) answers.leaves;
+        settled = λ clean live answered. answers.settled clean live tt;
         known = λ unknown. subst IsDecided unknown decided;
       }
 
@@ -57,6 +62,7 @@ module _ {S : Type 0} (g : Ghosts S) where
         told = λ clean commands stands. let told = refuses.told clean commands stands in (fails commands told.0, told.1);
         asked = λ clean commands stands store. refuses_more g old new IsAsked Others more (refuses.asked clean commands stands store);
         leaves = asks_as (state g old) (state g new) (Err cause) (Err cause) (λ is. is) refuses.leaves;
+        settled = refuses.settled;
         known = refuses.known;
       })
 
@@ -73,6 +79,9 @@ module _ {S : Type 0} (g : Ghosts S) where
         let early = second.leaves.later.clean clean in
         settled_then g old mid new (first.asked early commands stands) (second.asked clean commands (first.told early commands stands).1);
     leaves = asks_then (state g old) (state g mid) (state g new) x (Ok y) first.leaves second.leaves;
+    settled = λ clean live answered.
+        let early = first.settled (second.leaves.later.clean clean) live tt in
+        settled_then g old mid new early (second.settled clean early.same.0.is_open answered);
     known = tt;
   }
   inquires_then old mid new First Second Told Refused Makes Tells Fails Refuses x (Err cause) tells refuses first second = record {
@@ -84,16 +93,20 @@ module _ {S : Type 0} (g : Ghosts S) where
         let early = second.leaves.later.clean clean in
         refuses_then g old mid new Second (first.asked early commands stands) (second.asked clean commands (first.told early commands stands).1 store);
     leaves = asks_then (state g old) (state g mid) (state g new) x (Err cause) first.leaves second.leaves;
+    settled = λ clean live answered.
+        let early = first.settled (second.leaves.later.clean clean) live tt in
+        settled_then g old mid new early (second.settled clean early.same.0.is_open answered);
     known = second.known;
   }
 
   -- a listing of the newest revision is such a question
   pub inquires_lines : (old new : Held S) (revision : ℕ) (r : Result (Vec VersionedObject Global) RegisterFault)
-      → (HasCleanDisk (state g new) → Tells (state g old) (state g new) r (λ commands found. revision ≤ length commands → found.items ≡ as_of revision commands) (λ commands cause. revision ≡ length commands → IsStoreFault cause)) → (HasCleanDisk (state g new) → Asks g old new (IsForLines revision) r) → AsksOnly (state g old) (state g new) r → IfErr r IsReadingFault
+      → (HasCleanDisk (state g new) → Tells (state g old) (state g new) r (λ commands found. revision ≤ length commands → found.items ≡ as_of revision commands) (λ commands cause. revision ≡ length commands → IsStoreFault cause)) → (HasCleanDisk (state g new) → Asks g old new (IsForLines revision) r) → AsksOnly (state g old) (state g new) r → IfErr r IsReadingFault → (HasCleanDisk (state g new) → IsAnswered r → IsSettled g old new)
       → Inquires g old new (IsForLines revision) (λ commands found. revision ≤ length commands → found.items ≡ as_of revision commands) (λ commands cause. revision ≡ length commands → IsStoreFault cause) r
-  inquires_lines old new revision r told asked leaves cause = record {
+  inquires_lines old new revision r told asked leaves cause settled = record {
     told = told;
     asked = asked;
     leaves = leaves;
+    settled = λ clean live answered. settled clean answered;
     known = IfErr-weaker r _ _ reading_known cause;
   }

@@ -75,7 +75,6 @@ pub rows_given : (behind newest : ℕ) (shown rows : List Row) (journal : Gather
     → GivesCommands behind newest shown r
 rows_given behind newest shown rows journal (Ok found) order es stand gathers told = (rows, es, order, stand, told behind (newest - behind) es gathers)
 rows_given behind newest shown rows journal (Err fault.NotARegister) order es stand gathers told = (rows, es, order, stand, told behind (newest - behind) es gathers)
-rows_given behind newest shown rows journal (Err fault.Memory) order es stand gathers told = tt
 rows_given behind newest shown rows journal (Err other) order es stand gathers told = absurd told
 
 pub rows_damaged : (behind newest : ℕ) (shown rows : List Row) (cause : RegisterFault) → AreInOrder shown rows → IsCauseIn newest rows cause → GivesCommands behind newest shown (Err cause)

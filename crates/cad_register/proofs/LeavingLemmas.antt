@@ -5,7 +5,8 @@ use Rattle.sqlite.specs.State.{State, IsUnchanged, HasCleanDisk, Survives}
 use Rattle.cad_tables.specs.Asking.{OnlyReads}
 use Rattle.cad_versions.specs.declared.fault.RegisterFault.{RegisterFault}
 use Rattle.cad_versions.specs.declared.fault.RegisterFault.TheVariants as fault
-use Rattle.cad_register.specs.Leaving.{IsLater, IsAsBefore, IsOfTheRegister, IsAnswered, AsksOnly}
+use Rattle.cad_versions.specs.Keeping.{IsOfTheRegister, IsAnswered}
+use Rattle.cad_register.specs.Leaving.{IsLater, IsAsBefore, AsksOnly}
 use Rattle.cad_register.specs.Stands.{IsStoreFault, IsReadingFault}
 use Rattle.cad_register.specs.Damage.{AreShown, ListsRows, ListsStored, ReadsRows, ReadsStored}
 use Rattle.cad_versions.specs.Entries.{Entry}

@@ -6,6 +6,7 @@ pub mod ListedLemmas
 pub mod JudgedLemmas
 pub mod JournalLemmas
 pub mod JournalOrderLemmas
+pub mod SlotLemmas
 pub mod GatheringLemmas
 pub mod ReplayLemmas
 pub mod JournalRowLemmas

@@ -9,7 +9,7 @@ use Rattle.cad_tables.specs.Tables.{is_standing, register_schema, no_schema}
 use Rattle.cad_versions.specs.declared.command.Command.{Command}
 use Rattle.cad_versions.specs.declared.fault.RegisterFault.{RegisterFault}
 use Rattle.cad_versions.specs.declared.fault.RegisterFault.TheVariants.{NotARegister}
-use Rattle.cad_register.specs.Leaving.{IsOfTheRegister}
+use Rattle.cad_versions.specs.Keeping.{IsOfTheRegister}
 use Rattle.cad_register.specs.Opening.{Outcome, Created, Opened, OpenedOrCreated}
 use Rattle.cad_register.specs.declared.register.Register.{Register}
 use Rattle.cad_register.specs.Stands.{StandsFor}

@@ -16,6 +16,7 @@ use Rattle.cad_register.specs.declared.stored_version.StoredVersion.{StoredVersi
 use Rattle.cad_register.specs.Damage.{identifier_in, HasRevisions}
 use Rattle.cad_register.specs.Journal.{commands_behind}
 use Rattle.cad_register.specs.StoredVersions.{IsRowOf, entry_of}
+use Rattle.cad_register.specs.inner.Gathering.{slots_of}
 
 -- ---- what a reading holds
 
@@ -37,7 +38,7 @@ rows_left reading = newest_of reading - rows_read reading
 
 -- for each of its revisions the command, as far as the rows that were read show it
 abbrev pub commands_held : JournalReading → List (Option Command)
-commands_held reading = reading.gathering.slots.items
+commands_held reading = slots_of reading.gathering.slots
 
 -- a command enters one row at most, so the rows that were entered up to a revision have no later places
 abbrev pub is_whole : JournalReading → Bool

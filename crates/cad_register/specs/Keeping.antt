@@ -4,8 +4,8 @@ use Rattle.sqlite_trees.specs.declared.store.Store.{Ghosts}
 use Rattle.sqlite.specs.State.{State, HasCleanDisk}
 use Rattle.cad_versions.specs.declared.command.Command.{Command}
 use Rattle.cad_versions.specs.declared.fault.RegisterFault.{RegisterFault}
+use Rattle.cad_versions.specs.Keeping.{IsOfTheRegister}
 use Rattle.cad_register.specs.declared.register.Register.{Register}
-use Rattle.cad_register.specs.Leaving.{IsOfTheRegister}
 use Rattle.cad_register.specs.Registers.{state_of, IsRegisterOf, IsStill}
 
 -- refused for another cause than the database or memory, it shows the same as before; refused while the connection is open, it is the

@@ -1,10 +1,10 @@
 -- What a call that only asks the database leaves as it was (SQLite, SELECT and Transaction).
-use Rattle.std.specs.Prelude.{◌≡◌, ◌⊎◌, ◌≤◌, Result, Ok, Err, IsTrue}
+use Rattle.std.specs.Prelude.{◌≡◌, ◌⊎◌, ◌≤◌, Result, IsTrue}
 use Rattle.sqlite_disk.specs.Disk.{MoreFaults}
 use Rattle.sqlite.specs.State.{State, HasCleanDisk}
 use Rattle.cad_tables.specs.Steps.{KeepsAll}
 use Rattle.cad_versions.specs.declared.fault.RegisterFault.{RegisterFault}
-use Rattle.cad_versions.specs.declared.fault.RegisterFault.TheVariants as fault
+use Rattle.cad_versions.specs.Keeping.{IsAnswered}
 use Rattle.cad_register.specs.Surviving.{LeavesNoMore}
 
 -- a later moment of the same connection: its disk is clean only if it was clean before, its limit of steps is the same, no fault of the
@@ -21,17 +21,6 @@ pub record IsAsBefore (old new : State) : Type 0 where
   pub committed : new.committed ≡ old.committed
   pub liveness : new.is_open ≡ old.is_open
   pub mode : new.in_transaction ≡ old.in_transaction
-
--- neither the database nor memory is the cause of the refusal
-abbrev pub IsOfTheRegister : RegisterFault → Type 0
-IsOfTheRegister fault.Store = ⊥
-IsOfTheRegister fault.Memory = ⊥
-IsOfTheRegister other = Unit {0}
-
--- the database answered, and there was memory
-abbrev pub IsAnswered : {X : Type 0} → Result X RegisterFault → Type 0
-IsAnswered (Ok x) = Unit {0}
-IsAnswered (Err cause) = IsOfTheRegister cause
 
 -- answered, or refused for the register's own cause, all is as it was; refused for another cause, what is seen and committed is as it was,
 -- while the connection is open and no transaction had changed it; a crash leaves nothing that it could not leave before

@@ -3,3 +3,4 @@ pub mod Found
 pub mod Gathering
 pub mod Inquiring
 pub mod Reading
+pub mod Slots

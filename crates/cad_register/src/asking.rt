@@ -7,6 +7,7 @@ ghost use Rattle.sqlite_value.specs.declared.value.Value.TheVariants.{Int};
 ghost use Rattle.cad_tables.specs.Texts.{listing_text, range_text};
 ghost use Rattle.cad_tables.specs.Opening.{IsSettled};
 ghost use Rattle.sqlite.specs.Held.{state};
+ghost use Rattle.cad_versions.specs.Keeping.{IsAnswered};
 ghost use Rattle.cad_versions.specs.Versions.{versions};
 ghost use Rattle.cad_versions.specs.AsOf.{as_of, all_entries};
 ghost use Rattle.cad_versions.specs.Listing.{IsListing};
@@ -49,6 +50,8 @@ pub(crate) fn standing_of<S: Alter>(
     ensures inquires { Inquires S.Store connection.old connection.new (IsForObject object)
         (λ commands standing. IsStanding (versions commands) object standing)
         (λ commands fault. IsStoreFault fault) result }
+    ensures still { HasCleanDisk (state S.Store connection.new) →
+        IsAnswered result → IsSettled S.Store connection.old connection.new }
     ensures shown { IfOk result (λ _. TellAll S.Store connection.new (history_questions (Some object)) connection.old connection.new) }
     ensures damaged { IfErr result (NamesFirst S.Store connection.old connection.new (history_questions (Some object))) }
 {
@@ -76,7 +79,7 @@ pub(crate) fn versions_of<S: Alter>(
     ensures asked { HasCleanDisk (state S.Store connection.new) →
         Asks S.Store connection.old connection.new (IsForLines revision) result }
     ensures still { HasCleanDisk (state S.Store connection.new) →
-        OnOk result (IsSettled S.Store connection.old connection.new) }
+        IsAnswered result → IsSettled S.Store connection.old connection.new }
     ensures leaves { AsksOnly (state S.Store connection.old) (state S.Store connection.new) result }
     ensures cause { IfErr result IsReadingFault }
     ensures read { ReadsRows (state S.Store connection.old) (state S.Store connection.new) revision newest result }
@@ -102,7 +105,7 @@ pub(crate) fn entries_of<S: Alter>(
         (e : Error) × IsNotForMemory e ×
         FailsToQuery listing_text (Int (pos newest) ∷ []) (state S.Store connection.old) (state S.Store connection.new) e }
     ensures still { HasCleanDisk (state S.Store connection.new) →
-        OnOk result (IsSettled S.Store connection.old connection.new) }
+        IsAnswered result → IsSettled S.Store connection.old connection.new }
     ensures leaves { AsksOnly (state S.Store connection.old) (state S.Store connection.new) result }
     ensures cause { IfErr result IsReadingFault }
     ensures read { ReadsStored (state S.Store connection.old) (state S.Store connection.new) newest result }

@@ -1,6 +1,10 @@
 //! Whether a command is accepted, by the rows of the objects that it names.
 
 ghost use Rattle.std.specs.Prelude.{◌≡◌, ◌<◌, true, length, Some, None, IfOk, IfErr};
+ghost use Rattle.sqlite.specs.Held.{state};
+ghost use Rattle.sqlite.specs.State.{HasCleanDisk};
+ghost use Rattle.cad_tables.specs.Opening.{IsSettled};
+ghost use Rattle.cad_versions.specs.Keeping.{IsAnswered};
 ghost use Rattle.cad_versions.specs.Command.{object_named};
 ghost use Rattle.cad_versions.specs.Versions.{history, versions};
 ghost use Rattle.cad_versions.specs.Refusals.{is_entered as entered, are_entered as all_entered, is_full as filled, refuses_body, refusal};
@@ -108,6 +112,8 @@ pub(crate) fn decide<S: Alter>(
 ) -> Result<usize, RegisterFault>
     ensures damaged { IfErr result
         (NamesFirst S.Store connection.old connection.new (command_questions command.now revision)) }
+    ensures still { HasCleanDisk (state S.Store connection.new) →
+        IsAnswered result → IsSettled S.Store connection.old connection.new }
     ensures inquires { Inquires S.Store connection.old connection.new (IsForCommand command.now revision)
         (λ commands count. revision ≡ length commands →
         (refusal (versions commands) command.now ≡ None) ×

@@ -1,13 +1,14 @@
 //! The commands of a register, gathered from the versions that it stores.
 
-ghost use Rattle.std.specs.Prelude.{◌≡◌, ◌≢◌, ◌<◌, ◌+◌, ℕ, List, [], ◌∷◌, ◌++◌, length, get_or, set, map, Some, None, is_none, IfOk, MatchOption};
+ghost use Rattle.std.specs.Prelude.{◌≡◌, ◌≢◌, ◌<◌, ◌+◌, ℕ, List, [], ◌∷◌, ◌++◌, length, map, Some, None, IfOk, MatchOption};
 ghost use Rattle.cad_versions.specs.declared.command.Command.{Command as CommandOf};
 ghost use Rattle.cad_versions.specs.declared.command.Command.TheVariants.{Retire};
 ghost use Rattle.cad_versions.specs.Entries.{Entry};
 ghost use Rattle.cad_versions.specs.VersionedObject.{VersionedObject};
 ghost use Rattle.cad_register.specs.Journal.{beginning as begins, commands_behind};
-ghost use Rattle.cad_register.specs.inner.Gathering.{changed, retired, begun_over, takes_beginning, ended_in, Gathers};
+ghost use Rattle.cad_register.specs.inner.Gathering.{changed, retired, begun_over, ended_in, slots_of, Gathers};
 
+use crate::slots::Slots;
 use cad_day::Day;
 use cad_versions::{Body, Command, ObjectId, Version};
 use std::alloc::{AllocError, Global};
@@ -16,7 +17,7 @@ use std::alloc::{AllocError, Global};
 #[derive(Drop)]
 pub(crate) struct Gathering {
     behind: u32,
-    slots: Vec<Option<Command>>,
+    slots: Slots,
 }
 
 /// The command with which a version began.
@@ -38,70 +39,19 @@ fn beginning(object: ObjectId, number: u32, first: Day, body: Body) -> Command
     }
 }
 
-/// This many slots without a command.
-fn empty_slots(alloc: Global, behind: u32, count: u32) -> Result<Vec<Option<Command>>, AllocError>
-    ensures { IfOk result (λ slots. slots.items ≡ commands_behind behind count []) }
-{
-    let mut slots = Vec::with_capacity(alloc, count as usize)?;
-    for at in 0..count {
-        slots.push(None)?;
-    }
-    Ok(slots)
-}
-
-/// Puts a command into a slot.
-fn put(slots: &mut Vec<Option<Command>>, at: usize, command: Command)
-    requires { at < length slots.old.items }
-    ensures { slots.new.items ≡ set slots.old.items at (Some command) }
-{
-    let old = std::mem::replace(&mut slots[at], Some(command));
-    drop(old);
-}
-
-/// Whether the slot has no command.
-fn is_empty_slot(slots: &Vec<Option<Command>>, at: usize) -> bool
-    requires { at < length slots.now.items }
-    ensures { result ≡ is_none (get_or slots.now.items at None) }
-{
-    slots[at].is_none()
-}
-
-/// Whether the slot has no command that began a version.
-fn is_open_slot(slots: &Vec<Option<Command>>, at: usize) -> bool
-    requires { at < length slots.now.items }
-    ensures { result ≡ takes_beginning (get_or slots.now.items at None) }
-{
-    matches!(slots[at], None | Some(Command::Retire { .. }))
-}
-
-/// The commands, if each slot has one.
-fn all_given(alloc: Global, slots: Vec<Option<Command>>) -> Result<Option<Vec<Command>>, AllocError>
-    ensures { IfOk result (λ found. MatchOption found ((commands : List CommandOf) → map Some commands ≢ slots.items)
-        (λ commands. map Some commands.items ≡ slots.items)) }
-{
-    let mut commands = Vec::with_capacity(alloc, slots.len())?;
-    for one in slots {
-        let Some(command) = one else {
-            return Ok(None);
-        };
-        commands.push(command)?;
-    }
-    Ok(Some(commands))
-}
-
 impl Gathering {
     /// No version was noted yet for the `count` revisions after `behind`.
     pub(crate) fn new(alloc: Global, behind: u32, count: u32) -> Result<Gathering, AllocError>
         ensures { IfOk result (Gathers behind count []) }
     {
-        let slots = empty_slots(alloc, behind, count)?;
+        let slots = Slots::new(alloc, count)?;
         Ok(Gathering { behind, slots })
     }
 
     /// The slot of a revision.
     fn place_of(&self, revision: u32) -> Option<usize>
-        ensures { MatchOption result ((i : ℕ) → i < length self.now.slots.items → self.now.behind + 1 + i ≢ revision)
-            (λ at. (at < length self.now.slots.items) × (self.now.behind + 1 + at ≡ revision)) }
+        ensures { MatchOption result ((i : ℕ) → i < length (slots_of self.now.slots) → self.now.behind + 1 + i ≢ revision)
+            (λ at. (at < length (slots_of self.now.slots)) × (self.now.behind + 1 + at ≡ revision)) }
     {
         if revision <= self.behind {
             return None;
@@ -117,13 +67,13 @@ impl Gathering {
     /// The object was retired at the revision, or its version closed for the next one.
     fn end(&mut self, revision: u32, object: ObjectId, last: Day)
         ensures behind { self.new.behind ≡ self.old.behind }
-        ensures slots { self.new.slots.items ≡ changed self.old.behind revision (retired (Retire object last)) self.old.slots.items }
+        ensures slots { slots_of self.new.slots ≡ changed self.old.behind revision (retired (Retire object last)) (slots_of self.old.slots) }
     {
         let Some(at) = self.place_of(revision) else {
             return;
         };
-        if is_empty_slot(&self.slots, at) {
-            put(&mut self.slots, at, Command::Retire { object, last });
+        if self.slots.is_empty(at) {
+            self.slots.put(at, Command::Retire { object, last });
         }
     }
 
@@ -131,7 +81,7 @@ impl Gathering {
     fn end_if_closed(&mut self, closed: Option<u32>, object: ObjectId, last: Option<Day>)
         ensures behind { self.new.behind ≡ self.old.behind }
         ensures slots { (v : VersionedObject) (entered : ℕ) → v.object ≡ object → v.last ≡ last →
-            self.new.slots.items ≡ ended_in self.old.behind (record { version = v; entered = entered; closed = closed }) self.old.slots.items }
+            slots_of self.new.slots ≡ ended_in self.old.behind (record { version = v; entered = entered; closed = closed }) (slots_of self.old.slots) }
     {
         let Some(closed) = closed else {
             return;
@@ -145,14 +95,14 @@ impl Gathering {
     /// A version began at the revision with this command.
     fn begin(&mut self, revision: u32, command: Command)
         ensures behind { self.new.behind ≡ self.old.behind }
-        ensures slots { self.new.slots.items ≡ changed self.old.behind revision (begun_over command) self.old.slots.items }
+        ensures slots { slots_of self.new.slots ≡ changed self.old.behind revision (begun_over command) (slots_of self.old.slots) }
     {
         let Some(at) = self.place_of(revision) else {
             drop(command);
             return;
         };
-        if is_open_slot(&self.slots, at) {
-            put(&mut self.slots, at, command);
+        if self.slots.is_open(at) {
+            self.slots.put(at, command);
         } else {
             drop(command);
         }
@@ -176,14 +126,14 @@ impl Gathering {
     }
 
     /// The commands, if there is one for each revision.
-    pub(crate) fn commands(self, alloc: Global) -> Result<Option<Vec<Command>>, AllocError>
-        ensures held { IfOk result (λ found. MatchOption found ((commands : List CommandOf) → map Some commands ≢ self.slots.items)
-            (λ commands. map Some commands.items ≡ self.slots.items)) }
-        ensures given { IfOk result (λ found. (behind count : ℕ) (entries : List Entry) → Gathers behind count entries self →
-            MatchOption found ((commands : List CommandOf) → map Some commands ≢ commands_behind behind count entries)
-            (λ commands. map Some commands.items ≡ commands_behind behind count entries)) }
+    pub(crate) fn commands(self) -> Option<Vec<Command>>
+        ensures held { MatchOption result ((commands : List CommandOf) → map Some commands ≢ slots_of self.slots)
+            (λ commands. map Some commands.items ≡ slots_of self.slots) }
+        ensures given { (behind count : ℕ) (entries : List Entry) → Gathers behind count entries self →
+            MatchOption result ((commands : List CommandOf) → map Some commands ≢ commands_behind behind count entries)
+            (λ commands. map Some commands.items ≡ commands_behind behind count entries) }
     {
         let Gathering { behind: _, slots } = self;
-        all_given(alloc, slots)
+        slots.commands()
     }
 }

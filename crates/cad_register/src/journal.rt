@@ -8,7 +8,7 @@ ghost use Rattle.cad_register.specs.StoredVersions.{AreRowsOf, entry_of};
 ghost use Rattle.cad_register.specs.JournalReading.{AreSoundRows, IsUnsoundIn, GivesHeld};
 ghost use Rattle.cad_register.specs.JournalRows.{GivesCommands};
 ghost use Rattle.cad_register.specs.inner.Found.{AreReadOf};
-ghost use Rattle.cad_register.specs.inner.Gathering.{Gathers, IsGivenBy};
+ghost use Rattle.cad_register.specs.inner.Gathering.{slots_of, Gathers, IsGivenBy};
 
 use crate::found::FoundRow;
 use crate::gathering::Gathering;
@@ -42,14 +42,11 @@ fn gathered(
 }
 
 /// The commands, or that these rows are not those of a register.
-pub(crate) fn commands_in(
-    alloc: Global,
-    gathering: Gathering,
-) -> Result<Vec<Command>, RegisterFault>
+pub(crate) fn commands_in(gathering: Gathering) -> Result<Vec<Command>, RegisterFault>
     ensures given { IsGivenBy gathering result }
-    ensures held { GivesHeld gathering.slots.items result }
+    ensures held { GivesHeld (slots_of gathering.slots) result }
 {
-    match gathering.commands(alloc)? {
+    match gathering.commands() {
         Some(commands) => Ok(commands),
         None => Err(RegisterFault::NotARegister),
     }
@@ -69,7 +66,7 @@ pub(crate) fn commands_given(
     let mut found = found;
     put_in_order(&mut found);
     let gathering = gathered(alloc, found, behind, newest)?;
-    commands_in(alloc, gathering)
+    commands_in(gathering)
 }
 
 /// The versions of rows, each of which is valid in a register with this newest revision, no matter which rows are before it. The first

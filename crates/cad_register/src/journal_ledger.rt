@@ -40,8 +40,8 @@ impl<S: Alter> JournalLedger for Register<S> {
         Register::read_on(self, reading, most)
     }
 
-    fn commands(reading: JournalReading, alloc: Global) -> Result<Vec<Command>, RegisterFault> {
-        reading.commands(alloc)
+    fn commands(reading: JournalReading, _alloc: Global) -> Result<Vec<Command>, RegisterFault> {
+        reading.commands()
     }
 
     fn readings_stay() {

@@ -97,7 +97,7 @@ impl JournalReading {
     /// The commands, once all rows were read.
     ///
     /// If sound rows show no command of some revision, the result is `NotARegister`. Only a file that another program wrote has such rows.
-    pub fn commands(self, alloc: Global) -> Result<Vec<Command>, RegisterFault>
+    pub fn commands(self) -> Result<Vec<Command>, RegisterFault>
         requires { IsTrue (is_read_whole self) }
         ensures given { IfOk result (λ journal. (commands : List CommandOf) → HasRead commands self →
             journal.items ≡ drop (behind_of self) (take (newest_of self) commands)) }
@@ -111,6 +111,6 @@ impl JournalReading {
             read: _,
             newest: _,
         } = self;
-        commands_in(alloc, gathering)
+        commands_in(gathering)
     }
 }

@@ -32,6 +32,7 @@ mod listing;
 mod parts;
 mod place;
 mod register;
+mod slots;
 mod standing;
 mod stored_version;
 mod writing;

@@ -36,6 +36,7 @@ impl<S: Alter> Register<S> {
     ghost use Rattle.sqlite_value.specs.declared.value.Value.TheVariants.{Int};
     ghost use Rattle.cad_tables.specs.Texts.{listing_text, range_text};
     ghost use Rattle.cad_versions.specs.declared.command.Command.{Command as CommandOf};
+    ghost use Rattle.cad_versions.specs.Keeping.{IsAnswered, IsOfTheRegister};
     ghost use Rattle.cad_versions.specs.Versions.{versions};
     ghost use Rattle.cad_versions.specs.Refusals.{refusal};
     ghost use Rattle.cad_versions.specs.AsOf.{all_entries, as_of as register_as_of};
@@ -148,9 +149,10 @@ impl<S: Alter> Register<S> {
             IsReadingFault fault) }
         // No matter what the disk returns, only sound rows are listed, and the damaged row is the first that breaks a rule.
         ensures read { ReadsRows (state_of S.Store self.old) (state_of S.Store self.new) revision (revision_of self.old) result }
-        // It shows the same as before, with the same limit of steps, and no fault of the disk is forgotten.
+        // Unless the database or memory is the cause of a refusal, it shows the same as before, with the same limit of steps, and no fault
+        // of the disk is forgotten.
         ensures still { HasCleanDisk (state_of S.Store self.new) →
-            OnOk result (Remains S.Store self.old self.new) }
+            IsAnswered result → Remains S.Store self.old self.new }
         ensures store { HasCleanDisk (state_of S.Store self.new) →
             result ≡ Err RegisterFault.Store → (e : Error) × IsNotForMemory e ×
             FailsToQuery listing_text (Int (pos revision) ∷ []) (state_of S.Store self.old) (state_of S.Store self.new) e }
@@ -181,9 +183,10 @@ impl<S: Alter> Register<S> {
         ensures named { IfErr result IsReadingFault }
         // No matter what the disk returns, only sound rows are listed, and the damaged row is the first that breaks a rule.
         ensures read { ReadsStored (state_of S.Store self.old) (state_of S.Store self.new) (revision_of self.old) result }
-        // It shows the same as before, with the same limit of steps, and no fault of the disk is forgotten.
+        // Unless the database or memory is the cause of a refusal, it shows the same as before, with the same limit of steps, and no fault
+        // of the disk is forgotten.
         ensures still { HasCleanDisk (state_of S.Store self.new) →
-            OnOk result (Remains S.Store self.old self.new) }
+            IsAnswered result → Remains S.Store self.old self.new }
         ensures store { HasCleanDisk (state_of S.Store self.new) →
             result ≡ Err RegisterFault.Store → (e : Error) × IsNotForMemory e ×
             FailsToQuery listing_text (Int (pos (revision_of self.old)) ∷ []) (state_of S.Store self.old) (state_of S.Store self.new) e }
@@ -314,9 +317,10 @@ impl<S: Alter> Register<S> {
         // No matter what the disk returns, a row that is named is the first of those asked for that breaks a rule.
         ensures damaged { IfErr result
             (NamesFirst S.Store (connection_of self.old) (connection_of self.new) (command_questions command.now (revision_of self.old))) }
-        // It shows the same as before, with the same limit of steps, and no fault of the disk is forgotten.
-        ensures still { HasCleanDisk (state_of S.Store self.new) → OnOk result
-            ((commands : List CommandOf) → IsRegisterOf S.Store self.old commands → Remains S.Store self.old self.new) }
+        // Unless the database or memory is the cause of a refusal, it shows the same as before, with the same limit of steps, and no fault
+        // of the disk is forgotten.
+        ensures still { HasCleanDisk (state_of S.Store self.new) →
+            IsAnswered result → Remains S.Store self.old self.new }
         // What the database itself refused: a question for the current state.
         ensures store { HasCleanDisk (state_of S.Store self.new) →
             result ≡ Err RegisterFault.Store → (commands : List CommandOf) →
@@ -359,6 +363,9 @@ impl<S: Alter> Register<S> {
             result ≡ Err RegisterFault.Store → (commands : List CommandOf) →
             IsRegisterOf S.Store self.old commands →
             RefusesToApply S.Store (connection_of self.old) (connection_of self.new) command (length commands) }
+        // After another refusal, it shows the same as before, with the same limit of steps, and no fault of the disk is forgotten.
+        ensures still { HasCleanDisk (state_of S.Store self.new) →
+            IfErr result (λ fault. IsOfTheRegister fault → Remains S.Store self.old self.new) }
         ensures keeps { Keeps S.Store (LeavesEither command) self.old self.new result }
         // What an open after a crash may find once the revision is returned.
         ensures durable { HasCleanDisk (state_of S.Store self.new) →

@@ -1,5 +1,5 @@
 -- Faults of a ledger's store, and not of its commands (own profile).
-use Rattle.std.specs.Prelude.{ℤ}
+use Rattle.std.specs.Prelude.{ℤ, Result, Ok, Err}
 use Rattle.cad_versions.specs.declared.fault.RegisterFault.{RegisterFault}
 use Rattle.cad_versions.specs.declared.fault.RegisterFault.TheVariants.{Damaged, NotARegister, Store, Memory}
 
@@ -9,6 +9,17 @@ IsOfKeeping NotARegister = Unit {0}
 IsOfKeeping Store = Unit {0}
 IsOfKeeping Memory = Unit {0}
 IsOfKeeping other = ⊥
+
+-- neither the store nor memory is the cause of the refusal
+abbrev pub IsOfTheRegister : RegisterFault → Type 0
+IsOfTheRegister Store = ⊥
+IsOfTheRegister Memory = ⊥
+IsOfTheRegister other = Unit {0}
+
+-- the store answered, and there was memory
+abbrev pub IsAnswered : {X : Type 0} → Result X RegisterFault → Type 0
+IsAnswered (Ok x) = Unit {0}
+IsAnswered (Err cause) = IsOfTheRegister cause
 
 -- a ledger's store may be closed after this fault: it refused, or it was out of memory
 abbrev pub MayClose : RegisterFault → Type 0

@@ -4,7 +4,7 @@ use Rattle.std.specs.Global.{Global}
 use Rattle.cad_versions.specs.declared.command.Command.{Command}
 use Rattle.cad_versions.specs.declared.fault.RegisterFault.{RegisterFault}
 use Rattle.cad_versions.specs.declared.fault.RegisterFault.TheVariants.{Store, UnknownRevision}
-use Rattle.cad_versions.specs.Keeping.{IsShut, NamesDamage}
+use Rattle.cad_versions.specs.Keeping.{IsAnswered, IsShut, NamesDamage}
 use Rattle.cad_versions.specs.VersionedObject.{VersionedObject}
 use Rattle.cad_versions.specs.Versions.{versions}
 use Rattle.cad_versions.specs.Refusals.{refusal}
@@ -35,16 +35,16 @@ module _ {L : Type 0} (StandsFor : L → List Command → Type 0) (Counts Lives 
     pub unchanged : Counts new → IfErr result (λ fault. (commands : List Command) → StandsFor old commands → StandsFor new commands ⊎ IsShut Lives Fails old fault new)
     pub clean : Counts new → Counts old
 
-  -- the versions of a revision that was made are shown, in the order of identifiers, and the ledger remains what it was; a revision is not
-  -- shown for its own cause, or for one of the ledger's store; nothing changes then, unless the store failed and is closed; a row that is
-  -- named as damaged is damaged, no matter which commands the ledger holds
+  -- the versions of a revision that was made are shown, in the order of identifiers; a revision is not shown for its own cause, or for one
+  -- of the ledger's store; nothing changes then, unless the store failed and is closed; unless the store or memory is the cause, the ledger
+  -- remains what it was; a row that is named as damaged is damaged, no matter which commands the ledger holds
   pub record Listed (FailsToList : ℕ → List Command → RegisterFault → Type 0) (Refuses : L → L → ℕ → Type 0) (IsDamaged : L → L → ℕ → ℤ → ℤ → Type 0) (Remains : L → L → Type 0) (old : L) (revision : ℕ) (result : Result (Vec VersionedObject Global) RegisterFault) (new : L) : Type 0 where
     pub shown : Counts new → IfOk result (λ found. (commands : List Command) → StandsFor old commands → (revision ≤ length commands) × (found.items ≡ as_of revision commands))
     pub ascending : IfOk result (λ found. IsListing found.items)
     pub cause : Counts new → IfErr result (λ fault. (commands : List Command) → StandsFor old commands → ((length commands < revision) × (fault ≡ UnknownRevision)) ⊎ ((revision ≤ length commands) × FailsToList revision commands fault))
     pub store : Counts new → result ≡ Err Store → Refuses old new revision
     pub damaged : IfErr result (NamesDamage (IsDamaged old new revision))
-    pub still : Counts new → OnOk result (Remains old new)
+    pub still : Counts new → IsAnswered result → Remains old new
     pub kept : Counts new → OnOk result ((commands : List Command) → StandsFor old commands → StandsFor new commands)
     pub unchanged : Counts new → IfErr result (λ fault. (commands : List Command) → StandsFor old commands → StandsFor new commands ⊎ IsShut Lives Fails old fault new)
     pub clean : Counts new → Counts old

@@ -121,7 +121,7 @@ fn print_read(rt: &HostRuntime, reading: JournalReading) -> Result<()>
     requires { IsTrue (is_whole reading) }
 {
     let newest = reading.newest();
-    match reading.commands(rt.alloc()) {
+    match reading.commands() {
         Ok(commands) => print_commands(rt, commands, newest),
         Err(fault) => Err(error_of(fault)),
     }

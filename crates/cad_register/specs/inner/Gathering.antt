@@ -7,7 +7,13 @@ use Rattle.cad_versions.specs.declared.fault.RegisterFault.{RegisterFault}
 use Rattle.cad_versions.specs.declared.fault.RegisterFault.TheVariants as fault
 use Rattle.cad_versions.specs.Entries.{Entry}
 use Rattle.cad_register.specs.declared.gathering.Gathering.{Gathering}
+use Rattle.cad_register.specs.declared.slots.Slots.{Slots}
+use Rattle.cad_register.specs.inner.Slots.{slots_in}
 use Rattle.cad_register.specs.Journal.{ended_at, or_next, commands_behind}
+
+-- what the slots hold
+abbrev pub slots_of : Slots → List (Option Command)
+slots_of slots = slots_in slots.commands.items slots.given.items
 
 -- the slot of one of these revisions is changed
 abbrev pub changed : ℕ → ℕ → (Option Command → Option Command) → List (Option Command) → List (Option Command)
@@ -38,11 +44,10 @@ takes_beginning (Some other) = false
 -- its slots are the commands of this many revisions after this one, as these entries show them
 pub record Gathers (behind count : ℕ) (entries : List Entry) (gathering : Gathering) : Type 0 where
   pub behind_is : gathering.behind ≡ behind
-  pub commands_are : gathering.slots.items ≡ commands_behind behind count entries
+  pub commands_are : slots_of gathering.slots ≡ commands_behind behind count entries
 
 -- the commands that were gathered, if there is one for each revision
 abbrev pub IsGivenBy : Gathering → Result (Vec Command Global) RegisterFault → Type 0
 IsGivenBy gathering (Ok found) = (behind count : ℕ) (es : List Entry) → Gathers behind count es gathering → map Some found.items ≡ commands_behind behind count es
 IsGivenBy gathering (Err fault.NotARegister) = (behind count : ℕ) (es : List Entry) → Gathers behind count es gathering → (cs : List Command) → map Some cs ≢ commands_behind behind count es
-IsGivenBy gathering (Err fault.Memory) = Unit {0}
 IsGivenBy gathering (Err other) = ⊥

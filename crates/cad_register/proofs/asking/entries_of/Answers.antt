@@ -11,7 +11,7 @@ use Rattle.cad_register.proofs.RowLemmas.{rows_listed}
 use Rattle.cad_register.proofs.StandLemmas.{stands_kept, stands_same, entries_given}
 use Rattle.cad_tables.specs.lemmas.SettledLemmas.{settled_by}
 use Rattle.cad_register.proofs.RefusingLemmas.{rows_stored}
-use Rattle.cad_register.proofs.LeavingLemmas.{on_ok_anyway, asks_answered, asks_refused, store_reading, entries_reading, entries_read, store_reads}
+use Rattle.cad_register.proofs.LeavingLemmas.{not_answered, asks_answered, asks_refused, store_reading, entries_reading, entries_read, store_reads}
 use Rattle.cad_register.proofs.asking.entries_of.Goals as goal
 
 pub listed_entries-requires : goal.listed_entries-requires
@@ -41,8 +41,11 @@ returns-in-Err-clause-store g c clean e =
     rows_stored (state g.S.Store c.args.connection.now) (state g.S.Store c.listing.new.conn) c.args.newest c.in-Err.fault (sym c.store_fault.ensures.told ∙ is) (c.in-Err.ensures.refused clean)
 
 pub returns-in-Ok-clause-still : goal.returns-in-Ok-clause-still
-returns-in-Ok-clause-still g c clean =
-    on_ok_anyway c.listed_entries.result (settled_by g.S.Store c.args.connection.now c.listing.new.conn _ (c.in-Ok.ensures.reads.same clean) c.in-Ok.ensures.reads.survives)
+returns-in-Ok-clause-still g c clean answered =
+    settled_by g.S.Store c.args.connection.now c.listing.new.conn _ (c.in-Ok.ensures.reads.same clean) c.in-Ok.ensures.reads.survives
+
+pub returns-in-Err-clause-still : goal.returns-in-Err-clause-still
+returns-in-Err-clause-still g c clean answered = absurd (not_answered c.store_fault.result c.store_fault.ensures.cause answered)
 
 pub returns-in-Ok-clause-leaves : goal.returns-in-Ok-clause-leaves
 returns-in-Ok-clause-leaves g c = asks_answered (state g.S.Store c.args.connection.now) (state g.S.Store c.listing.new.conn) _ _ c.in-Ok.ensures.reads

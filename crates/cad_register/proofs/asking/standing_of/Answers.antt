@@ -12,7 +12,7 @@ use Rattle.cad_register.proofs.StandingLemmas.{standing_told}
 use Rattle.cad_register.proofs.StandLemmas.{stands_kept, stands_same}
 use Rattle.cad_tables.specs.lemmas.SettledLemmas.{settled_here, settled_by}
 use Rattle.cad_register.proofs.RefusingLemmas.{not_for_memory}
-use Rattle.cad_register.proofs.LeavingLemmas.{as_before, asks_answered, asks_refused, store_known}
+use Rattle.cad_register.proofs.LeavingLemmas.{not_answered, as_before, asks_answered, asks_refused, store_known}
 use Rattle.cad_register.proofs.NamingLemmas.{rows_named, rows_tell, rows_known, store_named, faults_settle}
 use Rattle.cad_register.proofs.asking.standing_of.Goals as goal
 
@@ -34,6 +34,7 @@ returns-in-Ok-clause-inquires g c =
           standing_told object cs c.deref.result.now new c.read.result (all object) rows (stands_same old new cs (c.in-Ok.ensures.reads.same clean) stands) c.read.ensures.known c.read.ensures.damaged;
       asked = λ clean cs stands. faults_settle g.S.Store held later object c.deref.result.now c.read.result (settled_by g.S.Store held later _ (c.in-Ok.ensures.reads.same clean) c.history.ensures.reads.survives) c.read.ensures.damaged;
       leaves = asks_answered old new _ _ c.in-Ok.ensures.reads;
+      settled = λ clean live answered. settled_by g.S.Store held later _ (c.in-Ok.ensures.reads.same clean) c.in-Ok.ensures.reads.survives;
       known = IfErr-weaker c.read.result _ _ (rows_known object c.deref.result.now) c.read.ensures.damaged;
     }
 
@@ -58,6 +59,7 @@ returns-in-Err-clause-inquires g c =
             fails = told.2;
           };
       leaves = asks_refused old new _ c.store_fault.result cause c.in-Err.ensures.reads;
+      settled = λ clean live answered. absurd (not_answered c.store_fault.result cause answered);
       known = store_known c.store_fault.result cause;
     }
 
@@ -79,3 +81,10 @@ returns-in-Ok-clause-damaged g c =
 
 pub returns-in-Err-clause-damaged : goal.returns-in-Err-clause-damaged
 returns-in-Err-clause-damaged g c = store_named _ c.store_fault.result c.store_fault.ensures.cause
+
+pub returns-in-Ok-clause-still : goal.returns-in-Ok-clause-still
+returns-in-Ok-clause-still g c clean answered =
+    settled_by g.S.Store c.args.connection.now c.history.new.conn _ (c.in-Ok.ensures.reads.same clean) c.in-Ok.ensures.reads.survives
+
+pub returns-in-Err-clause-still : goal.returns-in-Err-clause-still
+returns-in-Err-clause-still g c clean answered = absurd (not_answered c.store_fault.result c.store_fault.ensures.cause answered)

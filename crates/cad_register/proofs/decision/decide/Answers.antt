@@ -1,4 +1,7 @@
-use Rattle.std.proofs.Common.{Err, Some, ◌∙◌, ◌≡◌, length, sym, subst, inl, inr}
+use Rattle.std.proofs.Common.{ap, Err, Some, ◌∙◌, ◌≡◌, length, sym, subst, inl, inr}
+use Rattle.std.proofs.lemmas.Result.{err_from_is_err_and}
+use Rattle.cad_tables.specs.lemmas.SettledLemmas.{settled_then}
+use Rattle.cad_versions.specs.Keeping.{IsAnswered}
 use Rattle.cad_versions.specs.Versions.{versions}
 use Rattle.cad_versions.specs.Refusals.{refusal}
 use Rattle.cad_register.specs.Stands.{IsRefusal}
@@ -53,3 +56,16 @@ returns-in_err-check_addition-clause-damaged g c =
     let added = subst (λ o. NamesFirst g.S.Store mid new (addition_questions o c.args.revision) why) c.in-Some-body.ensures c.in_err-check_addition.ensures.damaged in
     told_on _ why c.from_residual-in_err-check_addition.result c.from_residual-in_err-check_addition.ensures.1
     (names_then g.S.Store old mid new (history_questions (Some (object_named c.args.command.now))) (addition_questions (body_added c.args.command.now) c.args.revision) why c.in_err-check_addition.ensures.inquires.leaves.later.clean own added)
+
+pub returns-in_err-standing-clause-still : goal.returns-in_err-standing-clause-still
+returns-in_err-standing-clause-still g c clean answered =
+    let p = err_from_is_err_and c.from_residual.result c.from_residual.ensures.1 in
+    c.in_err-standing.ensures.still clean (subst (λ r. IsAnswered r) (p.1 ∙ ap Err p.2) answered)
+
+pub returns-in_err-check_addition-clause-still : goal.returns-in_err-check_addition-clause-still
+returns-in_err-check_addition-clause-still g c clean answered =
+    let p = err_from_is_err_and c.from_residual-in_err-check_addition.result c.from_residual-in_err-check_addition.ensures.1 in
+    let adds = c.in_err-check_addition.ensures.inquires in
+    let first = c.in_ok-standing.ensures.still (adds.leaves.later.clean clean) tt in
+    settled_then g.S.Store c.args.connection.now c.standing_of.new.connection c.check_addition.new.connection first
+    (adds.settled clean first.same.0.is_open (subst (λ r. IsAnswered r) (p.1 ∙ ap Err p.2) answered))

@@ -1,5 +1,6 @@
 use Rattle.std.proofs.Common.{◌≡◌, ◌-◌, [], refl, sym, subst}
 use Rattle.cad_register.specs.Journal.{commands_behind}
+use Rattle.cad_register.specs.inner.Gathering.{slots_of}
 use Rattle.cad_register.proofs.journal_reading.JournalReading.begin.Goals as goal
 
 pub returns : goal.returns
@@ -10,5 +11,5 @@ returns c =
       behind_is = made.behind_is;
       newest_is = refl;
       none_read = refl;
-      holds = subst (λ b. gathering.slots.items ≡ commands_behind b (c.args.newest - b) []) (sym made.behind_is) made.commands_are;
+      holds = subst (λ b. slots_of gathering.slots ≡ commands_behind b (c.args.newest - b) []) (sym made.behind_is) made.commands_are;
     }

@@ -1,4 +1,4 @@
-use Rattle.std.proofs.Common.{◌≡◌, ◌<◌, arith, Err, inr, subst, ◌∙◌, ◌+◌, length, length-append, ap, sym, ◌∷◌, [], ◌++◌}
+use Rattle.std.proofs.Common.{refl, ◌≡◌, ◌<◌, arith, Err, inr, subst, ◌∙◌, ◌+◌, length, length-append, ap, sym, ◌∷◌, [], ◌++◌}
 use Rattle.std.proofs.lemmas.Result.{err_from_is_err_and}
 use Rattle.cad_register.proofs.WriteLemmas.{numbered}
 use Rattle.cad_register.proofs.StandLemmas.{refused_as}
@@ -7,7 +7,7 @@ use Rattle.cad_register.specs.Refusing.{RefusesChange}
 use Rattle.cad_tables.specs.Opening.{most_revision}
 use Rattle.sqlite.specs.Held.{state}
 use Rattle.cad_register.specs.Surviving.{LeavesEither}
-use Rattle.cad_register.proofs.LeavingLemmas.{asks_as}
+use Rattle.cad_register.proofs.LeavingLemmas.{asks_as, not_answered}
 use Rattle.cad_register.proofs.KeepingLemmas.{keeps_asked, keeps_refused, keeps_either}
 use Rattle.cad_register.proofs.SurvivingLemmas.{leaves_standing, leaves_then}
 use Rattle.cad_register.proofs.register.Register.apply.Goals as goal
@@ -91,3 +91,14 @@ returns-clause-durable g c clean cs register =
     let next : c.args.self.now.revision + 1 ≡ length cs + 1 = ap (λ n. n + 1) register.counted in
     let fits = numbered cs c.args.command c.in-Ok.count c.next_number.result decided.0 decided.1 c.next_number.ensures.next in
     leaves_standing (state g.S.Store c.enact.new.connection) (cs ++ c.args.command ∷ []) (g.met.S.Store.settled c.enact.new.connection.store) (c.in_ok-enact.ensures.enacted clean cs told.1 decided.0 fits next)
+
+pub returns-in-Err-clause-still : goal.returns-in-Err-clause-still
+returns-in-Err-clause-still g c clean own = inr (c.in-Err.ensures.still clean own, refl)
+
+pub returns-then-self-ge-MOST_REVISION-clause-still : goal.returns-then-self-ge-MOST_REVISION-clause-still
+returns-then-self-ge-MOST_REVISION-clause-still g c clean own = inr (c.in-Ok.ensures.still clean tt, refl)
+
+pub returns-in_err-enact-clause-still : goal.returns-in_err-enact-clause-still
+returns-in_err-enact-clause-still g c clean =
+    let p = err_from_is_err_and c.from_residual.result c.from_residual.ensures.1 in
+    rw (p.1, p.2) (λ own. absurd (not_answered c.in_err-enact.field-0.0 c.in_err-enact.ensures.cause own))

@@ -1,5 +1,4 @@
 use Rattle.std.proofs.Common.{refl, inr, Err}
-use Rattle.std.proofs.lemmas.Result.{on_ok_weaker}
 use Rattle.sqlite.specs.Held.{state}
 use Rattle.cad_versions.specs.declared.fault.RegisterFault.TheVariants.{UnknownRevision}
 use Rattle.cad_register.proofs.LeavingLemmas.{asks_nothing}
@@ -17,4 +16,4 @@ returns-clause-keeps g c =
     keeps_asked g.S.Store c.args.self.now c.versions_of.new.connection c.versions_of.result settled c.versions_of.ensures.leaves
 
 pub returns-clause-still : goal.returns-clause-still
-returns-clause-still g c clean = on_ok_weaker c.versions_of.result (λ settled. inr (settled, refl)) (c.versions_of.ensures.still clean)
+returns-clause-still g c clean answered = inr (c.versions_of.ensures.still clean answered, refl)

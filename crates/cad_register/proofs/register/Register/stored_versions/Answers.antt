@@ -1,5 +1,4 @@
 use Rattle.std.proofs.Common.{refl, inr}
-use Rattle.std.proofs.lemmas.Result.{on_ok_weaker}
 use Rattle.cad_register.proofs.KeepingLemmas.{keeps_asked}
 use Rattle.cad_register.proofs.register.Register.stored_versions.Goals as goal
 
@@ -9,4 +8,4 @@ returns-clause-keeps g c =
     keeps_asked g.S.Store c.args.self.now c.entries_of.new.connection c.entries_of.result settled c.entries_of.ensures.leaves
 
 pub returns-clause-still : goal.returns-clause-still
-returns-clause-still g c clean = on_ok_weaker c.entries_of.result (λ settled. inr (settled, refl)) (c.entries_of.ensures.still clean)
+returns-clause-still g c clean answered = inr (c.entries_of.ensures.still clean answered, refl)
