@@ -10,7 +10,7 @@
 //! - `changes N`: from here on each new server gives a base of a collection at most N changes;
 //! - `listings N`: from here on the ledger of each new server can be listed at most N times, and each listing after these runs out of
 //!   memory: so what is answered then was not read from it;
-//! - `pieces N`: from here on, the replies to bytes are begun, and are made after the next line was done, in pieces of at most N features.
+//! - `pieces N`: from here on, the replies to bytes are begun, and are made after the next line was done, in pieces of at most N units.
 //!   So a command of the next line comes between their pieces. What is printed, and its order, stay what they are;
 //! - `memory may be wanting`: from here on an event that the desk refuses because it is out of memory is answered by `4 Memory`, and the
 //!   program continues with the next event.
@@ -52,7 +52,7 @@ struct Course {
     desk: Desk<LimitedLedger>,
     /// The replies that were begun last, and are to be made after the next line was done.
     owed: Option<Owed>,
-    /// How many features are tested in a piece, if replies are made in pieces.
+    /// How many units of work a piece has at most, if replies are made in pieces.
     pieces: Option<u32>,
     memory: Memory,
     most_changes: Option<usize>,

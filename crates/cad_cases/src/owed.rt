@@ -16,7 +16,7 @@ pub struct Owed {
     pub owing: Owing<PageWork>,
 }
 
-/// The reply, by pieces in which at most so many features are tested.
+/// The reply, by pieces of at most so many units of work.
 fn made(alloc: Global, begun: Part<PageWork>, budget: u32) -> Result<Vec<u8>, AllocError> {
     let mut meter = WorkMeter::default();
     let mut part = begun;
@@ -32,7 +32,7 @@ fn made(alloc: Global, begun: Part<PageWork>, budget: u32) -> Result<Vec<u8>, Al
 }
 
 impl Owed {
-    /// What goes out, by pieces in which at most so many features are tested.
+    /// What goes out, by pieces of at most so many units of work.
     pub fn reply(self, alloc: Global, budget: u32) -> Result<Reply, AllocError> {
         let Owed { c: _, owing } = self;
         let Owing { parts, ends } = owing;

@@ -4,6 +4,6 @@ pub mod Pages
 pub mod Laws
 pub mod Plans
 pub mod Pieces
-pub mod Conditions
+pub mod Weights
 pub mod inner
 pub mod lemmas

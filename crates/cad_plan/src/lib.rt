@@ -3,6 +3,8 @@
 //! - [`menu`]: the plans for a form, each of which has every feature that meets it among its candidates
 //! - [`estimate`]: how many features a plan looks at. No memory is taken.
 //! - [`choose`]: the first plan of least cost of the menu
+//! - [`full_plan`], [`count_some`], [`choose_counted`]: the same choice in pieces. A full plan has a leaf for each condition, the leaves are
+//!   counted some at a time, and the counts decide
 //! - [`Plan`]: which features of a collection are looked at
 //! - [`FeaturesAt`]: the features of a collection at a revision, which counts them by the indexes of their rows
 //!
@@ -11,11 +13,15 @@
 #![tactic(auto)]
 
 mod choosing;
+mod counting;
 mod estimating;
+mod full_plans;
 mod menus;
 
 pub use cad_history::FeaturesAt;
 pub use cad_lookup::Plan;
-pub use choosing::choose;
+pub use choosing::{choose, choose_counted};
+pub use counting::count_some;
 pub use estimating::estimate;
+pub use full_plans::full_plan;
 pub use menus::menu;

@@ -1,14 +1,16 @@
 //! The plans for a normal form.
 
-ghost use Rattle.std.specs.Prelude.{◌≡◌, [], ◌∷◌, ◌++◌, IfOk, IsTrue, OnOk, map};
+ghost use Rattle.std.specs.Prelude.{◌≡◌, [], ◌∷◌, ◌++◌, IfOk, IsTrue, OnOk, filter, map};
 ghost use Rattle.std.specs.List.{list_all};
 ghost use Rattle.cad_feature.specs.Features.{Item};
 ghost use Rattle.cad_lookup.specs.Candidates.{is_candidate};
-ghost use Rattle.cad_lookup.specs.Ways.{all_features, counts_of, way_of};
+ghost use Rattle.cad_lookup.specs.Ways.{all_features, counts_of, join_of, way_of, ways_in};
 ghost use Rattle.cql_rewrite.specs.Meets.{meets};
-ghost use Rattle.cql_rewrite.specs.Menus.{and_menu, choice, menu as menu_of};
+ghost use Rattle.cql_rewrite.specs.Menus.{and_menu, choice, is_narrow, menu as menu_of};
 
-use crate::choosing::{chosen, joined, narrow, near_plan, range_plan};
+use crate::choosing::{NarrowPlans, Priced, choose};
+use crate::estimating::estimate;
+use crate::full_plans::{near_plan, range_plan};
 use cad_history::FeaturesAt;
 use cad_lookup::Plan;
 use cql_rewrite::Normal;
@@ -25,10 +27,36 @@ fn add_choices(
     ensures { OnOk result (map way_of plans.new.items ≡ map way_of plans.old.items ++ map (choice (counts_of features.now.features)) parts.now) }
 {
     for part in parts {
-        let chosen = chosen(alloc, part, features)?;
-        plans.push(chosen.plan)?;
+        let plan = choose(alloc, part, features)?;
+        plans.push(plan)?;
     }
     Ok(())
+}
+
+// Those choices of the parts that are other than all.
+fn narrow(alloc: Global, parts: &[Normal], features: &FeaturesAt) -> Result<NarrowPlans, AllocError>
+    ensures { IfOk result (λ narrow. map way_of narrow.plans.items ≡ filter is_narrow (map (choice (counts_of features.now.features)) parts.now)) }
+{
+    let all = features.count();
+    let mut narrow = NarrowPlans {
+        plans: Vec::new(alloc),
+        cost: all,
+    };
+    for part in parts {
+        let plan = choose(alloc, part, features)?;
+        let cost = estimate(&plan, features);
+        narrow.add(Priced { plan, cost }, all)?;
+    }
+    Ok(narrow)
+}
+
+// The join of the parts' choices.
+fn joined(alloc: Global, parts: &[Normal], features: &FeaturesAt) -> Result<Plan, AllocError>
+    ensures { IfOk result (λ plan. way_of plan ≡ join_of (ways_in (map (choice (counts_of features.now.features)) parts.now))) }
+{
+    let mut plans = Vec::new(alloc);
+    add_choices(alloc, &mut plans, parts, features)?;
+    Ok(Plan::Join(plans))
 }
 
 // All, the meet of the parts' choices that are other than all, if there are two or more of them, and each part's choice.
@@ -114,7 +142,7 @@ fn plans_for(alloc: Global, form: &Normal, features: &FeaturesAt) -> Result<Vec<
         }
         Normal::Or(parts) => {
             let joined = joined(alloc, parts, features)?;
-            let plans = pair(alloc, joined.plan)?;
+            let plans = pair(alloc, joined)?;
             Ok(plans)
         }
     }

@@ -6,3 +6,4 @@ pub mod FoundLemmas
 pub mod ReplyLemmas
 pub mod CallLemmas
 pub mod CountLemmas
+pub mod TurnLemmas

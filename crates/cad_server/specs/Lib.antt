@@ -1,4 +1,5 @@
 pub mod Contents
+pub mod Turns
 pub mod Replies
 pub mod Servers
 pub mod Refusing

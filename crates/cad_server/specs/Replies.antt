@@ -33,9 +33,18 @@ abbrev pub AsksForFeatures : ParsedRequest → Type 0
 AsksForFeatures (parsed.Immediate response) = ⊥
 AsksForFeatures (parsed.Features sought) = ⊤
 
+-- the same at a revision up to the newest, which is this one
+abbrev pub SeeksFeatures : ℕ → ParsedRequest → Type 0
+SeeksFeatures newest (parsed.Immediate response) = ⊥
+SeeksFeatures newest (parsed.Features sought) = revision_sought sought newest ≤ newest
+
 -- the request passes all checks but those of its revision and its identifier, and is for items or for a feature
 abbrev pub Asks : Request → Type 0
 Asks request = (wanted : ParsedRequest) × IsParsedRequest (requested request) wanted × AsksForFeatures wanted
+
+-- it passes that of its revision, too, where this one is the newest
+abbrev pub SeeksUpTo : ℕ → Request → Type 0
+SeeksUpTo newest request = (wanted : ParsedRequest) × IsParsedRequest (requested request) wanted × SeeksFeatures newest wanted
 
 -- ---- why there is no reply
 

@@ -25,6 +25,9 @@ pub(crate) fn part_for(
             let bytes = reply_bytes(alloc, response.status, ends, response.body.as_str())?;
             Ok(Part::Made(bytes))
         }
-        Located::Page { ask, snapshot } => Ok(Part::Left(PageWork::new(ask, snapshot, ends))),
+        Located::Page { ask, snapshot } => {
+            let work = PageWork::new(alloc, ask, snapshot, ends)?;
+            Ok(Part::Left(work))
+        }
     }
 }

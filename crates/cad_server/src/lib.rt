@@ -2,7 +2,8 @@
 //!
 //! - [`Server`]: answers requests over any ledger, and enters the land office's commands into it. A desk of connections uses it
 //!   (`cad_desk`), and so does serving over a reader and a writer (`cad_serve`)
-//! - [`PageWork`]: the work that is left for the reply with a page, which is made in pieces; [`WorkMeter`] counts the features that are tested
+//! - [`PageWork`]: the work that is left for the reply with a page, which is made in pieces; [`WorkMeter`] counts the features that are
+//!   tested and the leaves of plans that are counted
 //! - `laws`: that a request has one reply
 //!
 //! The features at every revision are read from the ledger once, as rows, and are kept. A command adds to them what it changes. So after the
@@ -34,6 +35,7 @@ mod snapshot_cache;
 mod sought;
 mod stage;
 mod totals;
+mod turns;
 mod work_meter;
 mod working;
 

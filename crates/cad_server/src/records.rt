@@ -1,10 +1,14 @@
 //! A ledger, and the features of its revisions.
 
+ghost use Rattle.std.specs.Prelude.{◌≡◌};
+ghost use Rattle.cad_server.specs.Servers.{is_damage as fault_names_damage};
+
 use crate::chaining::ledger_chain;
 use crate::located::Located;
 use crate::snapshot_cache::SnapshotCache;
 use crate::sought::{located_of, revision_of};
 use crate::totals::{Totals, highest_in};
+use crate::turns::versions_in_turn;
 use cad_changes::histories_after;
 use cad_history::{Histories, Snapshot};
 use cad_request::{FeatureRequest, ParsedRequest};
@@ -16,11 +20,18 @@ use std::rc::Rc;
 /// How many changes the bases of a list of rows get before new ones are made, by default.
 pub(crate) const MOST_CHANGES: usize = 2048;
 
+/// Whether the fault names a damaged row.
+fn is_damage(fault: &RegisterFault) -> bool
+    ensures { result ≡ fault_names_damage fault.now }
+{
+    matches!(fault, RegisterFault::Damaged { .. })
+}
+
 /// A ledger, and the features at every revision, once they were read from it.
 pub(crate) struct Records<L: Ledger> {
     ledger: L,
     kept: SnapshotCache,
-    /// Whether a row was damaged when the ledger last listed all of them. Each revision is listed alone then.
+    /// Whether some revision showed a damaged row when the ledger last listed all rows. Each revision is listed alone then.
     is_damaged: bool,
     /// How many changes the bases of a list of rows get before new ones are made.
     most_changes: usize,
@@ -146,20 +157,20 @@ impl<L: Ledger> Records<L> {
 }
 
 impl<L: HistoryLedger> Records<L> {
-    ghost use Rattle.std.specs.Prelude.{◌≡◌, ◌≤◌, List, length, true, None, IfErr, IfOk, IfSome};
+    ghost use Rattle.std.specs.Prelude.{◌≡◌, ◌≤◌, List, length, true, false, None, IfErr, IfOk, IfSome};
     ghost use Rattle.cad_versions.specs.declared.command.Command.{Command as CommandOf};
     ghost use Rattle.cad_versions.specs.AsOf.{as_of};
     ghost use Rattle.cad_history.specs.Snapshots.{IsSnapshotOf};
     ghost use Rattle.cad_server.specs.Keeping.{KeepsOf, cached_at, rows_in};
-    ghost use Rattle.cad_server.specs.Servers.{is_damage, ledger_in, revision_listed, AreRecordsOf, ListsRows, MakesSnapshot, Prepares, Recalls, Finds, Seeks, TellsSought, Tells};
+    ghost use Rattle.cad_server.specs.Servers.{is_damage as names_damage, ledger_in, AreRecordsOf, ListsInTurn, ListsSnapshot, MakesSnapshot, Prepares, Recalls, Finds, Seeks, TellsSought, Tells};
 
-    /// The versions that the ledger stores. Notes whether one of their rows is damaged.
+    /// The versions that the ledger stores. Notes whether some revision shows a damaged row.
     fn stored_versions(&mut self) -> Result<Vec<StoredVersion>, RegisterFault>
-        ensures listed { ListsRows L.Ledger (ledger_in self.old) result (ledger_in self.new) }
+        ensures listed { ListsInTurn L.Ledger (ledger_in self.old) result (ledger_in self.new) }
         ensures kept { self.new.kept ≡ self.old.kept }
-        ensures noted { IfErr result (λ fault. is_damage fault ≡ true → self.new.is_damaged ≡ true) }
+        ensures noted { IfErr result (λ fault. names_damage fault ≡ true → self.new.is_damaged ≡ true) }
     {
-        let stored = self.ledger.stored_versions();
+        let stored = versions_in_turn(&mut self.ledger);
         self.is_damaged = matches!(stored, Err(RegisterFault::Damaged { .. }));
         stored
     }
@@ -203,33 +214,35 @@ impl<L: HistoryLedger> Records<L> {
         }
     }
 
-    /// A snapshot of the revision, from all that the ledger stores.
-    fn read_snapshot(&mut self, revision: u64) -> Result<Snapshot, RegisterFault>
-        ensures { MakesSnapshot L.Ledger revision (L.Ledger.newest (ledger_in self.old)) self.old result self.new }
-    {
-        self.prepare()?;
-        Ok(self.snapshot_at(revision)?)
-    }
-
     /// A snapshot of the revision, from the rows of this revision alone.
     fn list_snapshot(&mut self, revision: u64) -> Result<Snapshot, RegisterFault>
-        requires { (commands : List CommandOf) → L.Ledger.stands_for (ledger_in self.old) commands → revision ≤ length commands }
-        ensures { MakesSnapshot L.Ledger revision revision self.old result self.new }
+        requires { self.old.is_damaged ≡ true }
+        ensures { ListsSnapshot L.Ledger revision self.old result self.new }
     {
         let versions = self.ledger.as_of(revision)?;
         Ok(Snapshot::build(self.alloc, revision, versions)?)
     }
 
+    /// A snapshot of the revision, from all that the ledger stores. If a row is damaged, those of the revision may be sound.
+    fn read_snapshot(&mut self, revision: u64) -> Result<Snapshot, RegisterFault>
+        requires { self.old.is_damaged ≡ false }
+        ensures { MakesSnapshot L.Ledger revision self.old result self.new }
+    {
+        match self.prepare() {
+            Ok(()) => Ok(self.snapshot_at(revision)?),
+            Err(fault) if is_damage(&fault) => self.list_snapshot(revision),
+            Err(fault) => Err(fault),
+        }
+    }
+
     /// A snapshot of an existing revision. The ledger is read only if the features at every revision are not kept.
     fn make_snapshot(&mut self, revision: u64) -> Result<Snapshot, RegisterFault>
-        requires { (commands : List CommandOf) → L.Ledger.stands_for (ledger_in self.old) commands → revision ≤ length commands }
-        ensures made { MakesSnapshot L.Ledger revision (revision_listed L.Ledger self.old revision) self.old result self.new }
+        ensures made { MakesSnapshot L.Ledger revision self.old result self.new }
         ensures unasked { ¬ (rows_in self.old.kept ≡ None) → ledger_in self.new ≡ ledger_in self.old }
     {
         if self.kept.histories().is_some() {
             return Ok(self.snapshot_at(revision)?);
         }
-        // The rows of an earlier revision may be sound.
         if self.is_damaged {
             return self.list_snapshot(revision);
         }

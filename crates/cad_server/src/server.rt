@@ -106,8 +106,8 @@ impl<L: JournalLedger> Server<L> {
 impl<L: HistoryLedger> Responder for Server<L> {
     ghost use Rattle.cad_resource.specs.Requested.{ends_after};
     ghost use Rattle.cad_server.specs.Replies.{IsReply, bad_head_reply, Asks, FailsToAnswer};
-    ghost use Rattle.cad_server.specs.Servers.{ledger_of, IsServerOf, RefusesToAnswer, DamagedForAnswer};
-    ghost use Rattle.cad_server.specs.Refusing.{failing_keeps};
+    ghost use Rattle.cad_server.specs.Servers.{ledger_of, IsServerOf, SeeksOf, RefusesToAnswer, DamagedForAnswer};
+    ghost use Rattle.cad_server.specs.Refusing.{failing_keeps, seeking_asks};
 
     ghost stands_for = { IsServerOf L.Ledger };
 
@@ -125,6 +125,8 @@ impl<L: HistoryLedger> Responder for Server<L> {
 
     ghost asks = { Asks };
 
+    ghost seeks = { SeeksOf L.Ledger };
+
     ghost fails_to_answer = { FailsToAnswer L.Ledger.fails_to_list };
 
     ghost fails_to_enter = { L.Ledger.fails_to_apply };
@@ -140,6 +142,8 @@ impl<L: HistoryLedger> Responder for Server<L> {
     ghost remains = { λ old new. L.Ledger.remains (ledger_of old) (ledger_of new) };
 
     ghost answer_keeps = { failing_keeps L.Ledger.list_keeps };
+
+    ghost seeks_asks = { λ server. seeking_asks (L.Ledger.newest (ledger_of server)) };
 
     ghost enter_keeps = { L.Ledger.apply_keeps };
 
@@ -186,7 +190,7 @@ impl<L: HistoryLedger> Responder for Server<L> {
 }
 
 impl<L: HistoryLedger> WorkingResponder for Server<L> {
-    ghost use Rattle.cad_server.specs.Works.{reply_owed, remaining_of};
+    ghost use Rattle.cad_server.specs.Works.{reply_owed, remaining_of, spent_by};
 
     type Work = PageWork;
 
@@ -196,7 +200,7 @@ impl<L: HistoryLedger> WorkingResponder for Server<L> {
 
     type Meter = WorkMeter;
 
-    ghost spent = { λ meter. meter.tested };
+    ghost spent = { spent_by };
 
     fn begin(
         &mut self,

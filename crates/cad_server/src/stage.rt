@@ -2,6 +2,13 @@
 
 use cad_page::{Plan, Search};
 
+/// A plan that leaves nothing out, and how many features its first leaves find.
+#[derive(Drop)]
+pub(crate) struct Counted {
+    pub(crate) full: Plan,
+    pub(crate) counts: Vec<u64>,
+}
+
 /// A plan, and the search by it.
 #[derive(Drop)]
 pub(crate) struct Planned {
@@ -12,8 +19,8 @@ pub(crate) struct Planned {
 /// How far the work is.
 #[derive(Drop)]
 pub(crate) enum Stage {
-    /// No plan is chosen.
-    Planning,
+    /// The leaves of the full plan are counted, by which a plan is chosen.
+    Counting(Counted),
     /// The page is searched for.
     Searching(Planned),
     /// The page was found, and its text is to be written.

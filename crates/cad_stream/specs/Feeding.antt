@@ -7,7 +7,7 @@ use Rattle.cad_head.specs.Pieces.{may_settle}
 use Rattle.cad_versions.specs.declared.command.Command.{Command}
 use Rattle.cad_versions.specs.declared.fault.RegisterFault.{RegisterFault}
 use Rattle.cad_versions.specs.declared.fault.RegisterFault.TheVariants.{Store, Memory}
-use Rattle.cad_versions.specs.Keeping.{IsShut, NamesDamage}
+use Rattle.cad_versions.specs.Keeping.{IsAnswered, IsShut, NamesDamage}
 use Rattle.cad_head.specs.Request.{request_of}
 use Rattle.cad_stream.specs.declared.connection.Connection.{Connection}
 use Rattle.cad_stream.specs.declared.connection.Fed.{Fed}
@@ -58,6 +58,10 @@ module _ {R : Type 0} (g : Ghosts R) where
       (before : R) × (g.counts new → g.remains old before)
       × ComeTo g.closes (λ request. g.damaged_for_answer before new request object number) bytes
 
+  -- the bytes come to a request that asks for what the ledger has, after the requests before it were answered and changed nothing
+  abbrev pub SeeksLater : List ℕ → R → R → Type 0
+  SeeksLater bytes old new = (before : R) × (g.counts new → g.remains old before) × ComeTo g.closes (g.seeks before) bytes
+
   -- a call for the requests of these bytes keeps the commands, or the ledger failed and is closed. What is answered counts if what is
   -- answered later does.
   pub record Stays {T : Type 0} (bytes : List ℕ) (old : R) (result : Result T RegisterFault) (new : R) : Type 0 where
@@ -65,7 +69,7 @@ module _ {R : Type 0} (g : Ghosts R) where
     pub unchanged : g.counts new → IfErr result (λ fault. (commands : List Command) → g.stands_for old commands → g.stands_for new commands ⊎ IsShut g.lives g.fails old fault new)
     pub store : g.counts new → IfErr result (λ fault. fault ≡ Store → RefusesLater bytes old new)
     pub damaged : IfErr result (NamesDamage (DamagedLater bytes old new))
-    pub still : g.counts new → OnOk result (g.remains old new)
+    pub still : g.counts new → IsAnswered result → g.remains old new
     pub clean : g.counts new → g.counts old
 
   -- these are the replies, and this is the outcome of the connection. Replies to requests that do not query the ledger are replies with any
@@ -81,7 +85,7 @@ module _ {R : Type 0} (g : Ghosts R) where
     pub replied : IfOk result (λ fed. (last : Outcome) × IsReplied old new (held ++ piece) (out fed) last × (left fed ≡ rest_of last))
     pub cause : IfErr result (λ fault. Under old new (λ commands. (fault ≡ Memory) ⊎ Fails g.closes g.fails_to_answer (held ++ piece) fault commands))
     pub held_back : may_settle held piece ≡ false → IfOk result (λ fed. (out fed ≡ []) × (left fed ≡ Some (held ++ piece)))
-    pub asking : IfErr result (λ fault. (fault ≡ Memory) ⊎ ComeTo g.closes g.asks (held ++ piece))
+    pub asking : IfErr result (λ fault. (fault ≡ Memory) ⊎ SeeksLater (held ++ piece) old new)
     pub stays : Stays (held ++ piece) old result new
 
   -- the same of replies that are made at once
@@ -93,7 +97,7 @@ module _ {R : Type 0} (g : Ghosts R) where
     pub replied : IfOk result (λ replies. (last : Outcome) × IsReplied old new bytes (replies_in replies.out) last × (option_map (λ used. drop used bytes) replies.used ≡ rest_of last))
     pub within : IfOk result (λ replies. (used : ℕ) → replies.used ≡ Some used → used ≤ length bytes)
     pub cause : IfErr result (λ fault. Under old new (λ commands. (fault ≡ Memory) ⊎ Fails g.closes g.fails_to_answer bytes fault commands))
-    pub asking : IfErr result (λ fault. (fault ≡ Memory) ⊎ ComeTo g.closes g.asks bytes)
+    pub asking : IfErr result (λ fault. (fault ≡ Memory) ⊎ SeeksLater bytes old new)
     pub stays : Stays bytes old result new
 
   -- what the bytes begin with
@@ -110,7 +114,7 @@ module _ {R : Type 0} (g : Ghosts R) where
   pub record IsNextBy {A : Type 0} (bytes_in : A → List ℕ) (ends_in : A → Bool) (bytes : List ℕ) (old : R) (result : Result (Next A) RegisterFault) (new : R) : Type 0 where
     pub next : IfOk result (λ next. IsNextOf bytes_in ends_in bytes old next new)
     pub cause : IfErr result (λ fault. Under old new (λ commands. (fault ≡ Memory) ⊎ Fails g.closes g.fails_to_answer bytes fault commands))
-    pub asking : IfErr result (λ fault. (fault ≡ Memory) ⊎ ComeTo g.closes g.asks bytes)
+    pub asking : IfErr result (λ fault. (fault ≡ Memory) ⊎ SeeksLater bytes old new)
     pub stays : Stays bytes old result new
 
   -- the same of answers that are made at once

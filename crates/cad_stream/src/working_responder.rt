@@ -56,7 +56,7 @@ pub trait WorkingResponder: Responder {
     ) -> Result<Begun<Self::Work>, RegisterFault>
         requires { IsRequestWithin bytes.now headers.now spans.now }
         ensures { AnsweredBy Self.Responder.stands_for Self.Responder.counts Self.Responder.lives Self.Responder.fails (told_begun owes) ends_begun
-            Self.Responder.replies Self.Responder.closes Self.Responder.asks Self.Responder.fails_to_answer Self.Responder.refuses_answer Self.Responder.damaged_for_answer Self.Responder.remains
+            Self.Responder.replies Self.Responder.closes Self.Responder.asks Self.Responder.seeks Self.Responder.fails_to_answer Self.Responder.refuses_answer Self.Responder.damaged_for_answer Self.Responder.remains
             self.old (request_at bytes.now headers.now spans.now) result self.new };
 
     /// Goes on with it, by so many units of work at most. It owes what it owed, and less is left to do, so the reply is made after some of

@@ -184,6 +184,12 @@ const CHANGES: &str =
 4 - UPDATE version SET unit = 0 WHERE object = 1 AND number = 2
 5 1.2 UPDATE version SET unit = 0 WHERE object = 1 AND number = 2
 0 - UPDATE version SET class = 0 WHERE object > 0
+# A version that was entered before the one before it is damaged where it is shown without that one.
+4 - UPDATE version SET entered = 7, closed = 7 WHERE object = 1 AND number = 1
+5 1.2 UPDATE version SET entered = 7, closed = 7 WHERE object = 1 AND number = 1
+6 1.2 UPDATE version SET entered = 7, closed = 7 WHERE object = 1 AND number = 1
+7 - UPDATE version SET entered = 7, closed = 7 WHERE object = 1 AND number = 1
+10 - UPDATE version SET entered = 7, closed = 7 WHERE object = 1 AND number = 1
 # Two rows of one key, in a table that has none.
 10 3.1 CREATE TABLE kept (object, number, class, first, last, entered, closed, name, code, label, area, unit, party, share_num, share_den, required, spot_x, spot_y, shape); INSERT INTO kept SELECT * FROM version; DROP TABLE version; CREATE TABLE version (object, number, class, first, last, entered, closed, name, code, label, area, unit, party, share_num, share_den, required, spot_x, spot_y, shape); INSERT INTO version SELECT * FROM kept; INSERT INTO version SELECT * FROM kept WHERE object = 3
 10 - CREATE TABLE kept (object, number, class, first, last, entered, closed, name, code, label, area, unit, party, share_num, share_den, required, spot_x, spot_y, shape); INSERT INTO kept SELECT * FROM version; DROP TABLE version; CREATE TABLE version (object, number, class, first, last, entered, closed, name, code, label, area, unit, party, share_num, share_den, required, spot_x, spot_y, shape); INSERT INTO version SELECT * FROM kept
@@ -222,7 +228,7 @@ fn named(alloc: Global, listed: Result<Vec<Version>, RegisterFault>) -> Result<S
 }
 
 /// The register of the sample after the change.
-fn changed(alloc: Global, change: &str) -> Result<Register<MemStore>, Fail> {
+pub(crate) fn changed(alloc: Global, change: &str) -> Result<Register<MemStore>, Fail> {
     let connection = in_memory(alloc).ok_or("in memory")?;
     let mut register = created(alloc, connection).ok_or("created")?;
     fill(alloc, &mut register)?;

@@ -1,9 +1,8 @@
 //! A desk over a register with a damaged row.
 
-use crate::register::{created, in_memory};
+use crate::damage::changed;
 use cad_desk::Desk;
 use cad_register::Register;
-use cad_sample::fill;
 use cad_server::Server;
 use cad_stream::Responder;
 use sqlite::MemStore;
@@ -23,16 +22,6 @@ fn desk_over(
     }
 }
 
-/// A register of the commands of the sample, in memory.
-fn filled(alloc: Global) -> Result<Register<MemStore>, Fail> {
-    let connection = in_memory(alloc).ok_or("in memory")?;
-    let mut register = created(alloc, connection).ok_or("created")?;
-    if fill(alloc, &mut register) != Ok(10) {
-        return Err("filled")?;
-    }
-    Ok(register)
-}
-
 /// Gives the desk each line of a script, and compares what is printed for it.
 fn tell<R: Responder>(
     rt: &impl Abort,
@@ -50,7 +39,7 @@ fn tell<R: Responder>(
 }
 
 /// For a register whose parcel 2 has no label: a request at a revision that has that row is refused and closes only its connection, and all
-/// else continues. An earlier revision is listed alone, once all rows were read in vain.
+/// else continues.
 const DAMAGED: &str =
     r#"serve 1 "GET /collections/parcels/items?filter=area+%3E+400 HTTP/1.1\r\nHost: x\r\n\r\n"
 serve 1 "GET / HTTP/1.1\r\nHost: x\r\n\r\n"
@@ -86,10 +75,64 @@ peer ended "HTTP/1.1 200 OK\r\nContent-Type: application/json\r\nContent-Length:
 #[test]
 fn a_damaged_row_refuses_the_revisions_that_have_it_alone(rt: HostRuntime) -> Result<(), Fail> {
     let alloc = rt.alloc();
-    let mut connection = filled(alloc)?.release();
-    let change = "UPDATE version SET label = NULL WHERE object = 2";
-    assert!(rt; connection.execute_batch(change).is_ok());
-    let register = Register::open(alloc, connection).ok().ok_or("opened")?;
+    let register = changed(alloc, "UPDATE version SET label = NULL WHERE object = 2")?;
     let mut desk = desk_over(alloc, register)?;
     tell(&rt, alloc, &mut desk, DAMAGED, DAMAGED_ANSWERS)
+}
+
+/// Whether the desk answers a page of the revision with 500, and not with 200.
+fn refuses<R: Responder>(alloc: Global, desk: &mut Desk<R>, revision: u64) -> Result<bool, Fail> {
+    let line = format!(in alloc;
+        r#"serve 1 "GET /collections/parcels/items?revision={revision} HTTP/1.1\r\nHost: x\r\n\r\n""#
+    )?;
+    let event = line_of(alloc, line.as_bytes())?.ok_or("a line of a script")?;
+    let told = answer(alloc, desk, event, Want::IsAmple)?;
+    if told.starts_with("5 Register Damaged \"HTTP/1.1 500 ") {
+        return Ok(true);
+    }
+    if told.starts_with("peer ended \"HTTP/1.1 200 ") {
+        return Ok(false);
+    }
+    Err("another answer")?
+}
+
+/// Asks for each revision of a register with this change: as the first request of a desk, and after those before it.
+fn refuses_exactly(
+    rt: &impl Abort,
+    alloc: Global,
+    change: &str,
+    refused: &[u64],
+) -> Result<(), Fail> {
+    let mut desk = desk_over(alloc, changed(alloc, change)?)?;
+    for revision in 0..11 {
+        let wanted = refused.contains(&revision);
+        let mut new = desk_over(alloc, changed(alloc, change)?)?;
+        assert_eq!(rt;
+            refuses(alloc, &mut new, revision)?,
+            wanted,
+            "{revision}: {change}"
+        );
+        assert_eq!(rt;
+            refuses(alloc, &mut desk, revision)?,
+            wanted,
+            "{revision}, later: {change}"
+        );
+    }
+    Ok(())
+}
+
+/// The version 1.2 is entered at revision 5, by the command after the one that entered 1.1.
+#[test]
+fn each_revision_is_judged_by_its_own_rows(rt: HostRuntime) -> Result<(), Fail> {
+    let alloc = rt.alloc();
+    let label = "UPDATE version SET label = NULL WHERE object = 2";
+    refuses_exactly(&rt, alloc, label, &[6, 7, 8, 9, 10])?;
+    let early = "UPDATE version SET entered = 7, closed = 7 WHERE object = 1 AND number = 1";
+    refuses_exactly(&rt, alloc, early, &[5, 6])?;
+    refuses_exactly(
+        &rt,
+        alloc,
+        "UPDATE version SET label = 'B-9' WHERE object = 2",
+        &[],
+    )
 }

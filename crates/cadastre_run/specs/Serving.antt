@@ -20,7 +20,7 @@ use Rattle.cad_sample.specs.Filling.{Enters, IsFilled}
 use Rattle.cad_sample.specs.Sample.{sample_commands}
 use Rattle.cad_server.specs.declared.server.Server.{Server}
 use Rattle.cad_server.specs.Replies.{IsReply, bad_head_reply, Asks, FailsToAnswer}
-use Rattle.cad_server.specs.Servers.{ledger_of, IsServerOf, RefusesToAnswer, DamagedForAnswer}
+use Rattle.cad_server.specs.Servers.{ledger_of, IsServerOf, SeeksOf, RefusesToAnswer, DamagedForAnswer}
 use Rattle.cadastre_run.specs.declared.outcome.Outcome.{Outcome}
 use Rattle.cadastre_run.specs.declared.outcome.Outcome.TheVariants as outcome
 use Rattle.cadastre_run.specs.Outcomes.{outcome_of}
@@ -44,6 +44,7 @@ module _ {L : Type 0} (g : ledger.Ghosts L) where
     closes = ends_after;
     bad_head = bad_head_reply;
     asks = Asks;
+    seeks = SeeksOf g;
     fails_to_answer = FailsToAnswer g.fails_to_list;
     fails_to_enter = g.fails_to_apply;
     refuses_answer = RefusesToAnswer g;

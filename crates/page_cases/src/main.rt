@@ -20,8 +20,8 @@
 //!
 //! A page's case is `page `, and a request like that of `explain`. The answer is the body of its page as it is sent and, after a space,
 //! the target of its link to the next page, if it has one. If the query is not valid, the answer is the body that reports its fault.
-//! `another page in pieces of` and a number reports that the page is another one if it is searched for in pieces of so many features;
-//! those of 1 to 7 features are tried.
+//! `another page in pieces of` and a number reports that the page is another one if so many leaves are counted for its plan at a time, and
+//! it is searched for in pieces of so many features. Those of 1 to 7 are tried. 0 is the plan that is chosen at once.
 //! A case of `grown ` asks for the same page, and one of `grown-explain ` how it is found. Here no version is listed: each command of the
 //! sample register was added to the features at every revision. The answer is made once by these rows, as changes to bases, and once by
 //! the same with new bases. `bases otherwise` reports that the former have no changes or the latter have some, `settled otherwise` that
@@ -50,7 +50,7 @@
 //! - `grown`: answers by the features at every revision
 //! - `menus`: the page of a request by each plan of its menu
 //! - `pages`: pages by every plan
-//! - `pieces`: pages in pieces of so many features
+//! - `pieces`: plans and pages in pieces
 //! - `plans`: plans as they are printed, and their candidates
 //! - `queries`: what parameters ask for, and links
 //! - `ranges`: ranges as they are printed

@@ -84,6 +84,8 @@ impl Responder for Echo {
 
     ghost asks = { λ _. Unit {0} };
 
+    ghost seeks = { λ _ _. Unit {0} };
+
     ghost fails_to_answer = { λ _ _ fault. fault ≡ NotARegister };
 
     ghost fails_to_enter = { λ _ _. IsMemory };
@@ -99,6 +101,8 @@ impl Responder for Echo {
     ghost remains = { λ old new. new ≡ old };
 
     ghost answer_keeps = { λ _ _. lost_keeps };
+
+    ghost seeks_asks = { λ _ _ seeks. seeks };
 
     ghost enter_keeps = { λ _ _. memory_keeps };
 

@@ -8,12 +8,12 @@ use Rattle.cad_stream.specs.Answering.{AnsweredBy}
 
 module _ {R A B : Type 0} (StandsFor : R → List Command → Type 0) (Counts Lives : R → Type 0) (Fails : R → R → Type 0)
     (one : A → List ℕ) (one_ends : A → Bool) (other : B → List ℕ) (other_ends : B → Bool)
-    (IsReply : List Command → Request → List ℕ → Type 0) (Closes : Request → Bool) (Asks : Request → Type 0) (FailsToAnswer : List Command → Request → RegisterFault → Type 0) (Refuses : R → R → Request → Type 0) (IsDamaged : R → R → Request → ℤ → ℤ → Type 0) (Remains : R → R → Type 0)
+    (IsReply : List Command → Request → List ℕ → Type 0) (Closes : Request → Bool) (Asks : Request → Type 0) (Seeks : R → Request → Type 0) (FailsToAnswer : List Command → Request → RegisterFault → Type 0) (Refuses : R → R → Request → Type 0) (IsDamaged : R → R → Request → ℤ → ℤ → Type 0) (Remains : R → R → Type 0)
     (old : R) (request : Request) (new : R) where
   -- the same reply is one, whether it is made or begun
   pub answered_as : (a : A) (b : B) → other b ≡ one a → other_ends b ≡ one_ends a
-      → AnsweredBy StandsFor Counts Lives Fails one one_ends IsReply Closes Asks FailsToAnswer Refuses IsDamaged Remains old request (Ok a) new
-      → AnsweredBy StandsFor Counts Lives Fails other other_ends IsReply Closes Asks FailsToAnswer Refuses IsDamaged Remains old request (Ok b) new
+      → AnsweredBy StandsFor Counts Lives Fails one one_ends IsReply Closes Asks Seeks FailsToAnswer Refuses IsDamaged Remains old request (Ok a) new
+      → AnsweredBy StandsFor Counts Lives Fails other other_ends IsReply Closes Asks Seeks FailsToAnswer Refuses IsDamaged Remains old request (Ok b) new
   answered_as a b same ends it = record {
     replied = λ counts commands stands. subst (λ (bytes : List ℕ). IsReply commands request bytes) (sym same) (it.replied counts commands stands);
     plain = subst (λ (bytes : List ℕ). IsPlainReply Asks IsReply request bytes) (sym same) it.plain;
@@ -30,8 +30,8 @@ module _ {R A B : Type 0} (StandsFor : R → List Command → Type 0) (Counts Li
 
   -- and so is the same failure
   pub failed_as : (fault : RegisterFault)
-      → AnsweredBy StandsFor Counts Lives Fails one one_ends IsReply Closes Asks FailsToAnswer Refuses IsDamaged Remains old request (Err fault) new
-      → AnsweredBy StandsFor Counts Lives Fails other other_ends IsReply Closes Asks FailsToAnswer Refuses IsDamaged Remains old request (Err fault) new
+      → AnsweredBy StandsFor Counts Lives Fails one one_ends IsReply Closes Asks Seeks FailsToAnswer Refuses IsDamaged Remains old request (Err fault) new
+      → AnsweredBy StandsFor Counts Lives Fails other other_ends IsReply Closes Asks Seeks FailsToAnswer Refuses IsDamaged Remains old request (Err fault) new
   failed_as fault it = record {
     replied = λ counts. tt;
     plain = tt;
@@ -40,7 +40,7 @@ module _ {R A B : Type 0} (StandsFor : R → List Command → Type 0) (Counts Li
     asking = it.asking;
     store = it.store;
     damaged = it.damaged;
-    still = λ counts. tt;
+    still = it.still;
     kept = λ counts. tt;
     unchanged = it.unchanged;
     clean = it.clean;

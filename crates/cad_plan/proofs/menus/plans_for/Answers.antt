@@ -12,5 +12,5 @@ returns-in_ok-plans-in-And c =
 pub returns-in_ok-plans-in-Or : goal.returns-in_ok-plans-in-Or
 returns-in_ok-plans-in-Or c =
     let counts = counts_of c.args.features.now.features in
-    c.in_ok-plans-in-Or.ensures ∙ ap (λ w. all_features ∷ w ∷ []) (rw c.deref-in-Or.ensures.value at c.in_ok-joined-in-Or.ensures.way)
+    c.in_ok-plans-in-Or.ensures ∙ ap (λ w. all_features ∷ w ∷ []) (rw c.deref-in-Or.ensures.value at c.in_ok-joined-in-Or.ensures)
     ∙ sym (ap (menu counts) c.in-Or.is ∙ menu_Or counts c.in-Or.parts)
