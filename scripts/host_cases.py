@@ -212,6 +212,11 @@ def woken(count):
     return "wake " + " ".join(str(it) for it in range(count))
 
 
+def counted(peer, place):
+    """A connection of the office asks for the status between two rounds."""
+    return [status(peer), f"wake {place}", "end", "end"]
+
+
 STOP = ["give 3 stop_", "wake 66"] + rounds(6)
 BUSY = ["come"] * 3 + ["office"] + [f"room {peer} {MUCH}" for peer in range(4)] + ["wake 64 65"] + rounds(7)
 SEVERAL = "give 0 " + "".join(f"GET {it} HTTP/1.1||" for it in ("/units/2000", "/b", "/units/9900", "/units/30", "/c"))
@@ -228,6 +233,10 @@ WORKS = [
     clients(12) + [asks(peer, f"/units/{9000 if peer % 3 else 30000}") for peer in range(12)] + [woken(12)] + rounds(10) + [asks(1, "/units/900"), "wake 1"] + rounds(40),
     clients(9) + [asks(peer, "/units/40000") for peer in range(9)] + [woken(9)] + rounds(12) + ["come", f"room 9 {MUCH}", "wake 64", "end", asks(9, "/a"), "wake 9", "end", asks(9, "/units/10000"), "wake 9"] + rounds(50),
     clients(3) + [asks(2, "/units/9900"), "wake 2", "end", asks(0, "/units/9900"), "wake 0", "end", asks(1, "/units/9900"), "wake 1"] + rounds(9),
+    # a status says how many are worked on and how many wait, and counts the pieces of work
+    ["office", "room 0 10000", "wake 65", "end"] + ["come"] * 11 + [f"room {peer} {MUCH}" for peer in range(1, 12)] + ["wake 64", "end"] + [asks(peer, f"/units/{20000 + peer}") for peer in range(1, 12)]
+        + [woken(11), "end", "second 2"] + counted(0, 66) + rounds(9) + counted(0, 66) + ["second 5"] + rounds(12) + counted(0, 66) + counted(0, 66) + rounds(30) + counted(0, 66),
+    ["office", "room 0 10000", "wake 65", "end"] + ["come"] * 2 + [f"room {peer} {MUCH}" for peer in (1, 2)] + ["wake 64", "end", asks(1, "/unmade/20000"), asks(2, "/units/9900"), "wake 0 1", "end"] + counted(0, 66) + rounds(4) + counted(0, 66) + rounds(6) + counted(0, 66),
     # several requests of one client
     clients(1) + [SEVERAL, "wake 0"] + rounds(14),
     clients(1) + [SEVERAL, "wake 0", "end", SEVERAL] + rounds(24),

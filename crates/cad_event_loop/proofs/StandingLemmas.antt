@@ -8,11 +8,12 @@ use Rattle.cad_clients.specs.declared.client.Client.{Client}
 use Rattle.cad_clients.specs.declared.clients.Clients.{Clients}
 use Rattle.cad_clients.specs.Notes.{MayGoOn}
 use Rattle.cad_clients.specs.Slots.{client_in, client_at}
+use Rattle.cad_office_socket.specs.Serving.{most_turns as most_for_office}
 use Rattle.cad_event_loop.specs.declared.peers.Peers.{Peers}
 use Rattle.cad_event_loop.specs.declared.stopped.Stopped.{Stopped}
 use Rattle.cad_event_loop.specs.inner.Line.{standing_of, standing_at, first_of}
-use Rattle.cad_event_loop.specs.inner.Standing.{standing_office, standings, IsAsked, IsPaced, IsAtDoors, LosesNobody, flag_at, ServesOffice, most_for_office, ServesOfficesBelow, ServesOffices, GivesTurn, GivesTurnAlone, GivesPiece, WorksOnFirst, ComesToPiece, ServesPeers, most_for_piece, HasVisits, HearsBetween, VisitsClient, most_for_one, GivesTurnsBelow, IfWhole, ServesAll, ServesEach, MakesRound, MadeRounds}
-use Rattle.cad_event_loop.specs.Turns.{Standing, absent, waiting, ready, working, Standings, woken, is_among, office_place, stands_after, stands_in, office_after, office_in, line_after, line_in, all_after, is_turn_of, is_wait_of, is_end_of, is_piece_of, is_office_turn, any_of, turns_of, pieces_of, written_by, written_to, Replies, WorksOn, HasEnough, EachHasTurn, IsQuiet, HearsOffice, IsVisit, AreVisits, IsPiece, HasPiece, ComesByVisits, GivesTurns, most_in_round, IsRound, AreRounds, all_works, AreServed}
+use Rattle.cad_event_loop.specs.inner.Standing.{standing_office, standings, IsAsked, IsPaced, IsAtDoors, LosesNobody, flag_at, ServesOffice, ServesOfficesBelow, ServesOffices, GivesTurn, GivesTurnAlone, GivesPiece, WorksOnFirst, ComesToPiece, ServesPeers, HasVisits, HearsBetween, VisitsClient, GivesTurnsBelow, IfWhole, ServesAll, ServesEach, MakesRound, MadeRounds}
+use Rattle.cad_event_loop.specs.Turns.{Standing, absent, waiting, ready, working, Standings, woken, is_among, office_place, stands_after, stands_in, office_after, office_in, line_after, line_in, all_after, is_turn_of, is_wait_of, is_end_of, is_piece_of, is_office_turn, any_of, turns_of, pieces_of, written_by, written_to, Replies, WorksOn, HasEnough, EachHasTurn, IsQuiet, HearsOffice, IsVisit, AreVisits, IsPiece, HasPiece, ComesByVisits, GivesTurns, most_in_round, most_for_client, most_for_piece, IsRound, AreRounds, all_works, AreServed}
 use Rattle.cad_event_loop.specs.Works.{AtOffice, AtOffices, Work, wakes, opens, acts, waits, ends, office_comes, enters, office_leaves, aside}
 
 pub stands_in-append : (c : ℕ) (old : Standing) (xs ys : List Work) → stands_in c old (xs ++ ys) ≡ stands_in c (stands_in c old xs) ys
@@ -521,10 +522,10 @@ visit_none c peers offices not = record { gives = turn_none c 37 peers offices n
 pub below-nil : (a : Standings) → GivesTurnsBelow 0 a a []
 below-nil a = record { passes = passes-nil 0 a; turns = λ d within is. absurd (omega (arith, within)); visits = visits-nil a.offices }
 
-pub below-then : {E : Type 0} (c : ℕ) (a b d : Standings) (xs ys : List Work) → GivesTurnsBelow c a b xs → VisitsClient {E = E} c most_for_one (Ok None) b d ys → GivesTurnsBelow (c + 1) a d (xs ++ ys)
+pub below-then : {E : Type 0} (c : ℕ) (a b d : Standings) (xs ys : List Work) → GivesTurnsBelow c a b xs → VisitsClient {E = E} c most_for_client (Ok None) b d ys → GivesTurnsBelow (c + 1) a d (xs ++ ys)
 below-then c a b d xs ys x y = record {
   visits = visits-then a.offices xs ys x.visits (has_alike b.offices (offices_in a.offices xs) ys (λ k. sym (x.passes.paced.offices k)) y.visits);
-  passes = passes-append (most_for_one * c) most_for_one (most_for_one * (c + 1)) a b d xs ys (omega arith) x.passes y.gives.passes;
+  passes = passes-append (most_for_client * c) most_for_client (most_for_client * (c + 1)) a b d xs ys (omega arith) x.passes y.gives.passes;
   turns = λ e within is. elim (cases_lt e c) [
     | inl before ↦ enough_left e xs ys (x.turns e before is)
     | inr past ↦
@@ -542,7 +543,7 @@ beyond {S} {W} clients d past = let room = clients.room in ap (λ (o : Option (O
 
 pub all_served : {E : Type 0} (c : ℕ) (a b : Standings) (xs : List Work) → ((d : ℕ) → 64 ≤ d → a.clients d ≡ absent) → 64 ≤ c → c ≤ 64 → GivesTurnsBelow c a b xs → ServesAll {E = E} (Ok None) a b xs
 all_served c a b xs none least most x = record {
-  paced = paced-more (most_for_one * c) (most_for_one * 64) a b xs (omega (arith, most)) x.passes.paced;
+  paced = paced-more (most_for_client * c) (most_for_client * 64) a b xs (omega (arith, most)) x.passes.paced;
   turns = (
     (λ d is. elim (cases_lt d c) [
       | inl within ↦ x.turns d within is
@@ -554,15 +555,15 @@ all_served c a b xs none least most x = record {
 }
 
 -- hosting ends meanwhile
-pub some_served : {E : Type 0} (result : Result (Option Stopped) E) (c : ℕ) (a b d : Standings) (xs ys : List Work) → c < 64 → IfWhole result ⊥ → GivesTurnsBelow c a b xs → VisitsClient c most_for_one result b d ys
+pub some_served : {E : Type 0} (result : Result (Option Stopped) E) (c : ℕ) (a b d : Standings) (xs ys : List Work) → c < 64 → IfWhole result ⊥ → GivesTurnsBelow c a b xs → VisitsClient c most_for_client result b d ys
     → ServesAll result a d (xs ++ ys)
 some_served result c a b d xs ys within cut x y = record {
-  paced = paced-append (most_for_one * c) most_for_one (most_for_one * 64) a b d xs ys (omega (arith, within)) x.passes.paced y.gives.passes.paced;
+  paced = paced-append (most_for_client * c) most_for_client (most_for_client * 64) a b d xs ys (omega (arith, within)) x.passes.paced y.gives.passes.paced;
   turns = cut_off (((c : ℕ) → a.clients c ≡ ready → HasEnough c (xs ++ ys)) × HasVisits a.offices (xs ++ ys)) result cut;
   kept_office = kept_then a b d xs ys x.passes.kept_office y.gives.passes.kept_office;
 }
 
-pub error_served : {E F : Type 0} (error : E) (other : F) (c : ℕ) (a b d : Standings) (xs ys : List Work) → c < 64 → GivesTurnsBelow c a b xs → VisitsClient c most_for_one (Err other) b d ys → ServesAll (Err error) a d (xs ++ ys)
+pub error_served : {E F : Type 0} (error : E) (other : F) (c : ℕ) (a b d : Standings) (xs ys : List Work) → c < 64 → GivesTurnsBelow c a b xs → VisitsClient c most_for_client (Err other) b d ys → ServesAll (Err error) a d (xs ++ ys)
 error_served error other c a b d xs ys within x y = record { paced = (some_served (Err other) c a b d xs ys within tt x y).paced; turns = tt; kept_office = (some_served (Err other) c a b d xs ys within tt x y).kept_office }
 
 -- the first of the line is this one

@@ -1,11 +1,13 @@
 -- Whose turn it is (own profile).
-use Rattle.std.specs.Prelude.{◌≡◌, ◌⊎◌, ⊤, ℕ, ◌+◌, ◌≤◌, nat_eq, Bool, true, false, not, ◌||◌, List, [], ◌∷◌, ◌++◌, length, take, drop, filter, Some, if◌then◌else◌}
+use Rattle.std.specs.Prelude.{◌≡◌, ◌⊎◌, ⊤, ℕ, ◌+◌, ◌-◌, ◌*◌, ◌≤◌, nat_eq, Bool, true, false, not, ◌||◌, List, [], ◌∷◌, ◌++◌, length, take, drop, filter, Some, if◌then◌else◌}
 use Rattle.std.specs.Global.{Vec}
 use Rattle.cad_clients.specs.declared.turned.Ending.TheVariants.{Unmade}
 use Rattle.cad_clients.specs.Channels.{fed, worked, written_in, Act}
+use Rattle.cad_clients.specs.Steps.{most_turns}
+use Rattle.cad_office_socket.specs.Serving.{most_turns as most_for_office}
 use Rattle.cad_office_socket.specs.declared.turned.EntryTurned.{EntryTurned}
 use Rattle.cad_office_socket.specs.declared.turned.EntryTurned.TheVariants as turn
-use Rattle.cad_event_loop.specs.Works.{Work, wakes, opens, acts, waits, ends, office_comes, enters, office_leaves, aside, is_last}
+use Rattle.cad_event_loop.specs.Works.{Work, wakes, opens, acts, waits, ends, office_comes, enters, office_leaves, aside, is_last, most_offices}
 
 -- a connection is not open; or it waits until the network reports its socket; or it may continue; or its next reply is to be worked on
 pub data Standing : Type 0 where
@@ -37,9 +39,17 @@ abbrev pub is_among : ℕ → List ℕ → Bool
 is_among c [] = false
 is_among c (place ∷ places) = nat_eq place c || is_among c places
 
--- the place by which it reports connection k of the land office: the places of the clients are their numbers
+-- the most clients that are connected
+abbrev pub most_clients : ℕ
+most_clients = 64
+
+-- the place by which it reports connection k of the land office: the places of the clients are their numbers, and then come the two doors
 abbrev pub office_place : ℕ → ℕ
-office_place k = 66 + k
+office_place k = most_clients + 2 + k
+
+-- how many places there are
+abbrev pub place_count : ℕ
+place_count = office_place most_offices
 
 -- The state of connection c after one thing is done.
 -- It may continue after it was opened, or the network reported it, or it had a turn at which it did not wait and that left no reply to be
@@ -86,9 +96,13 @@ office_in k old (work ∷ later) = office_in k (office_after k old work) later
 abbrev pub without : ℕ → List ℕ → List ℕ
 without c line = filter (λ d. not (nat_eq d c)) line
 
--- how many are worked on in turn in addition to the first
+-- how many are worked on in turn
+abbrev pub most_in_turn : ℕ
+most_in_turn = 8
+
+-- in addition to the first
 abbrev pub others_in_turn : ℕ
-others_in_turn = 7
+others_in_turn = most_in_turn - 1
 
 -- the first of the line goes behind the others that are worked on in turn, and before those that wait until one of these is done
 abbrev pub moved_back : List ℕ → List ℕ
@@ -210,7 +224,7 @@ pub record WorksOn (c : ℕ) (works : List Work) : Type 0 where
 -- that, or there are four
 pub record HasEnough (c : ℕ) (works : List Work) : Type 0 where
   pub turn : has_turn c works ≡ true
-  pub enough : (any_of (is_end_of c) works ≡ true) ⊎ ((any_of (is_wait_of c) works ≡ true) ⊎ (Replies c works ⊎ (WorksOn c works ⊎ (4 ≤ turns_of c works))))
+  pub enough : (any_of (is_end_of c) works ≡ true) ⊎ ((any_of (is_wait_of c) works ≡ true) ⊎ (Replies c works ⊎ (WorksOn c works ⊎ (most_turns ≤ turns_of c works))))
 
 -- each connection that may continue has its turns, and each of the land office has one, if it may continue
 pub record EachHasTurn (stands : Standings) (works : List Work) : Type 0 where
@@ -278,11 +292,41 @@ GivesTurns stands (wakes places ∷ later) =
     EachHasTurn (all_after stands (wakes places ∷ [])) later × ComesByVisits stands.line (λ k. office_after k (stands.offices k) (wakes places)) later
 GivesTurns stands other = ⊥
 
--- The most that is done in a round. The network reports readiness. For each of 64 clients there are four turns, a further report of the
--- network and eight turns of each of the land office's four connections. The same follows a piece of work for a reply. They have eight more
--- each. 64 clients are dropped, 64 come, the land office's four connections are dropped, and one comes.
+-- The most that is done for each. The land office has so many turns on each of its connections when it is served, and is served between two
+-- clients after the network reported who may continue.
+abbrev pub most_for_offices : ℕ
+most_for_offices = most_for_office * most_offices
+
+abbrev pub most_between : ℕ
+most_between = 1 + most_for_offices
+
+-- for a client, its turns, and then the land office is served
+abbrev pub most_for_client : ℕ
+most_for_client = most_turns + most_between
+
+-- the same for a piece of work
+abbrev pub most_for_piece : ℕ
+most_for_piece = 1 + most_between
+
+-- for all clients, and one piece of work
+abbrev pub most_for_peers : ℕ
+most_for_peers = most_for_client * most_clients + most_for_piece
+
+-- for these and once more for the land office, after the network reported who may continue
+abbrev pub most_served : ℕ
+most_served = 1 + most_for_peers + most_for_offices
+
+-- all clients are dropped, and as many come
+abbrev pub most_clients_changed : ℕ
+most_clients_changed = most_clients + most_clients
+
+-- all connections of the land office are dropped, and one comes
+abbrev pub most_offices_changed : ℕ
+most_offices_changed = most_offices + 1
+
+-- the most that is done in a round
 abbrev pub most_in_round : ℕ
-most_in_round = 2568
+most_in_round = most_served + most_clients_changed + most_offices_changed
 
 -- a round
 pub record IsRound (stands : Standings) (works : List Work) : Type 0 where

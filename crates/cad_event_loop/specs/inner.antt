@@ -1,4 +1,5 @@
 -- Definitions that clauses of private functions cite. No contract of a public call cites them.
+pub mod Closings
 pub mod Line
 pub mod Offices
 pub mod Rounds

@@ -7,7 +7,7 @@ use cad_desk::Desk;
 use cad_network::Network;
 use cad_office_socket::EntryTurned;
 use cad_stream::{JournalResponder, WorkingResponder};
-use std::io::Result;
+use std::io::{ErrorKind, Result};
 
 /// For how many seconds replies and the office's answers are written once hosting ends.
 const LAST_SECONDS: u64 = 5;
@@ -16,11 +16,12 @@ const LAST_SECONDS: u64 = 5;
 const LAST_PATIENCE: u64 = 100;
 
 impl<S: Drop, J: Drop, W: Drop> Rounds<S, J, W> {
-    ghost use Rattle.std.specs.Prelude.{◌≡◌, ◌<◌, ℕ, None};
+    ghost use Rattle.std.specs.Prelude.{◌≡◌, ◌<◌, ℕ, None, IfOk, IsOk, IsTrue};
     ghost use Rattle.cad_event_loop.specs.Hosting.{Hosts, IsClosing};
+    ghost use Rattle.cad_event_loop.specs.inner.Closings.{IsAllSent, IsLastSent};
     ghost use Rattle.cad_event_loop.specs.inner.Offices.{seat_at, Seats};
     ghost use Rattle.cad_event_loop.specs.inner.Rounds.{here};
-    ghost use Rattle.cad_event_loop.specs.Works.{IsEmpty};
+    ghost use Rattle.cad_event_loop.specs.Works.{most_offices, IsEmpty};
 
     /// Waits until a socket may take something, or for `LAST_PATIENCE`.
     fn wait_last<
@@ -37,7 +38,7 @@ impl<S: Drop, J: Drop, W: Drop> Rounds<S, J, W> {
         N: Network<Socket = S>,
         R: JournalResponder<Reading = J> + WorkingResponder<Work = W>,
     >(&mut self, k: usize, net: &mut N, desk: &mut Desk<R>)
-        requires { k < 4 }
+        requires { k < most_offices }
         ensures { Hosts R.Responder R.JournalResponder.own R.owes IsClosing None (N.history net.old) desk.old (here N.name self.old) (N.history net.new) desk.new (here N.name self.new) }
     {
         if !self.peers.ready.office(k) || !self.offices.is_sending(k) {
@@ -76,24 +77,31 @@ impl<S: Drop, J: Drop, W: Drop> Rounds<S, J, W> {
         self.send_offices(net, desk);
     }
 
+    /// Whether nothing is left to be written of the replies that are made and of the office's answers that are under way.
+    fn is_sent(&self) -> bool
+        ensures { IsTrue result → IsAllSent self.now }
+    {
+        !self.offices.any_sending() && !any_sending(&self.peers.clients)
+    }
+
     /// Writes the replies that are made and the office's answers that are under way, for at most five seconds. Nothing is read or answered, and
     /// no reply is worked on.
     fn send_last<
         N: Network<Socket = S>,
         R: JournalResponder<Reading = J> + WorkingResponder<Work = W>,
     >(&mut self, net: &mut N, desk: &mut Desk<R>, meter: &mut R::Meter) -> Result<()>
-        ensures { Hosts R.Responder R.JournalResponder.own R.owes IsClosing None (N.history net.old) desk.old (here N.name self.old) (N.history net.new) desk.new (here N.name self.new) }
+        ensures sent { IfOk result (λ _. IsLastSent self.old self.new) }
+        ensures hosts { Hosts R.Responder R.JournalResponder.own R.owes IsClosing None (N.history net.old) desk.old (here N.name self.old) (N.history net.new) desk.new (here N.name self.new) }
     {
         let began = self.peers.now;
         for _ in 0..u64::MAX {
             self.send_all(net, desk, meter);
-            let is_sending = self.offices.any_sending() || any_sending(&self.peers.clients);
-            if !is_sending || LAST_SECONDS <= self.peers.now.saturating_sub(began) {
+            if self.is_sent() || LAST_SECONDS <= self.peers.now.saturating_sub(began) {
                 return Ok(());
             }
             self.wait_last(net, desk)?;
         }
-        Ok(())
+        Err(ErrorKind::TimedOut.into())
     }
 
     /// The same, if the network did not fail before.
@@ -107,7 +115,8 @@ impl<S: Drop, J: Drop, W: Drop> Rounds<S, J, W> {
         desk: &mut Desk<R>,
         meter: &mut R::Meter,
     ) -> Result<()>
-        ensures { Hosts R.Responder R.JournalResponder.own R.owes IsClosing None (N.history net.old) desk.old (here N.name self.old) (N.history net.new) desk.new (here N.name self.new) }
+        ensures sent { IsTrue is_sound → IfOk result (λ _. IsLastSent self.old self.new) }
+        ensures hosts { Hosts R.Responder R.JournalResponder.own R.owes IsClosing None (N.history net.old) desk.old (here N.name self.old) (N.history net.new) desk.new (here N.name self.new) }
     {
         if is_sound {
             self.send_last(net, desk, meter)
@@ -121,7 +130,7 @@ impl<S: Drop, J: Drop, W: Drop> Rounds<S, J, W> {
         N: Network<Socket = S>,
         R: JournalResponder<Reading = J> + WorkingResponder<Work = W>,
     >(&mut self, k: usize, net: &mut N, desk: &mut Desk<R>)
-        requires { k < 4 }
+        requires { k < most_offices }
         ensures clients { self.new.peers ≡ self.old.peers }
         ensures gone { Seats self.old.offices self.new.offices k None }
         ensures hosts { Hosts R.Responder R.JournalResponder.own R.owes IsClosing None (N.history net.old) desk.old (here N.name self.old) (N.history net.new) desk.new (here N.name self.new) }
@@ -169,6 +178,7 @@ impl<S: Drop, J: Drop, W: Drop> Rounds<S, J, W> {
         desk: &mut Desk<R>,
         meter: &mut R::Meter,
     ) -> Result<()>
+        ensures drained { IsOk result → N.is_drained net.new }
         ensures nobody { IsEmpty (here N.name self.new) }
         ensures hosts { Hosts R.Responder R.JournalResponder.own R.owes IsClosing None (N.history net.old) desk.old (here N.name self.old) (N.history net.new) desk.new (here N.name self.new) }
     {

@@ -1,6 +1,8 @@
 //! The loop over readiness.
 
+ghost use Rattle.std.specs.Prelude.{◌≡◌, Ok, IsOk};
 ghost use Rattle.cad_event_loop.specs.Hosting.{Hosted, IsLastOf, TellsFailure};
+ghost use Rattle.cad_event_loop.specs.declared.stopped.Stopped.TheVariants.{Asked as asked};
 
 use crate::rounds::Rounds;
 use crate::stopped::Stopped;
@@ -15,6 +17,7 @@ use std::io::Result;
 fn last_of(hosted: Result<Stopped>, ended: Result<()>) -> Result<Stopped>
     ensures last { IsLastOf hosted result }
     ensures failed { TellsFailure hosted ended result }
+    ensures closed { result ≡ Ok asked → IsOk ended }
 {
     match hosted {
         Ok(Stopped::Asked) => match ended {
@@ -42,7 +45,8 @@ pub fn host<N: Network, R: JournalResponder + WorkingResponder, L: AccessLog<N::
     meter: &mut R::Meter,
     log: &mut L,
 ) -> Result<Stopped>
-    ensures { Hosted R.Responder R.JournalResponder.own R.owes (N.history net.old) desk.old result (N.history net.new) desk.new }
+    ensures drained { result ≡ Ok asked → N.is_drained net.new }
+    ensures hosted { Hosted R.Responder R.JournalResponder.own R.owes (N.history net.old) desk.old result (N.history net.new) desk.new }
 {
     let mut rounds = Rounds::new(alloc)?;
     let hosted = rounds.run(net, desk, meter, log);

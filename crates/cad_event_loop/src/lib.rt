@@ -23,9 +23,9 @@
 //! and `scripts/check_proxy`:
 //!
 //! - the times: each round drops the clients that `Clients::is_overdue` reports, by limits of 60 and 300 seconds and the seconds that the
-//!   network reported, and the connections of the land office that took no byte of an answer for 300 seconds; five seconds for replies and
-//!   the office's answers at the end; 50 milliseconds for a wait while somebody may stand at a door, as after the system could not hand over a
-//!   connection, or after 64 clients came in a round.
+//!   network reported, and the connections of the land office that took no byte of an answer for 300 seconds; 50 milliseconds for a wait while
+//!   somebody may stand at a door, as after the system could not hand over a connection, or after 64 clients came in a round;
+//! - the counts: the figures of a status count each client, reply and later piece of work, and each look at the network.
 //!
 //! ```text
 //! host(alloc, &mut net, &mut desk, &mut meter, &mut NoLog)?    // Stopped::Asked after the office's line `stop`

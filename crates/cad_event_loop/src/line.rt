@@ -4,8 +4,8 @@ ghost use Rattle.std.specs.Prelude.{◌≡◌};
 
 use arrayvec::ArrayVec;
 
-/// How many are worked on in turn in addition to the first.
-const OTHERS_IN_TURN: usize = 7;
+/// How many are worked on in turn.
+const MOST_IN_TURN: usize = 8;
 
 /// The numbers of the clients whose replies are worked on, in the order of their turns. Each client has one place at most, so there is room.
 #[derive(Drop)]
@@ -14,10 +14,10 @@ pub(crate) struct Line {
 }
 
 impl Line {
-    ghost use Rattle.std.specs.Prelude.{◌<◌, ◌==◌, true, false, [], length};
+    ghost use Rattle.std.specs.Prelude.{◌<◌, ◌-◌, ◌==◌, min, true, false, [], length};
     ghost use Rattle.std.specs.List.{list_any};
     ghost use Rattle.cad_event_loop.specs.inner.Line.{first_of};
-    ghost use Rattle.cad_event_loop.specs.Turns.{is_among, lined_up, moved_back, settled, without};
+    ghost use Rattle.cad_event_loop.specs.Turns.{is_among, lined_up, most_in_turn, moved_back, settled, without};
 
     /// Nobody's reply is worked on.
     pub(crate) fn new() -> Line
@@ -33,6 +33,20 @@ impl Line {
         ensures { result ≡ first_of self.now.numbers.items }
     {
         self.numbers.first().copied()
+    }
+
+    /// How many are worked on in turn.
+    pub(crate) fn in_turn(&self) -> usize
+        ensures { result ≡ min (length self.now.numbers.items) most_in_turn }
+    {
+        self.numbers.len().min(MOST_IN_TURN)
+    }
+
+    /// How many wait until one of those is done.
+    pub(crate) fn waiting(&self) -> usize
+        ensures { result ≡ length self.now.numbers.items - most_in_turn }
+    {
+        self.numbers.len().saturating_sub(MOST_IN_TURN)
     }
 
     /// Whether this one is in the line.
@@ -58,7 +72,7 @@ impl Line {
             return;
         }
         let first = self.numbers.remove(0);
-        let at = (count - 1).min(OTHERS_IN_TURN);
+        let at = (count - 1).min(MOST_IN_TURN - 1);
         self.numbers.insert(at, first);
     }
 

@@ -1,6 +1,7 @@
 //! The land office's connections by their numbers.
 
 ghost use Rattle.std.specs.Prelude.{◌≡◌, length};
+ghost use Rattle.cad_event_loop.specs.Works.{most_offices};
 
 use crate::office::Office;
 use crate::readiness::MOST_OFFICES;
@@ -10,7 +11,7 @@ use std::alloc::{AllocError, Global};
 #[derive(Drop)]
 pub(crate) struct Offices<S, J> {
     seats: Vec<Option<Office<S, J>>>,
-    pub ghost room: { length seats.items ≡ 4 },
+    pub ghost room: { length seats.items ≡ most_offices },
 }
 
 impl<S: Drop, J: Drop> Offices<S, J> {
@@ -30,7 +31,7 @@ impl<S: Drop, J: Drop> Offices<S, J> {
 
     /// Takes a connection out of its place.
     pub(crate) fn take(&mut self, k: usize) -> Option<Office<S, J>>
-        requires { k < 4 }
+        requires { k < most_offices }
         ensures was { result ≡ seat_at self.old k }
         ensures rest { Seats self.old self.new k None }
     {
@@ -39,7 +40,7 @@ impl<S: Drop, J: Drop> Offices<S, J> {
 
     /// Puts a connection into its place, or leaves this free.
     pub(crate) fn put(&mut self, k: usize, office: Option<Office<S, J>>)
-        requires { k < 4 }
+        requires { k < most_offices }
         ensures { Seats self.old self.new k office }
     {
         self.seats[k] = office;
@@ -47,8 +48,8 @@ impl<S: Drop, J: Drop> Offices<S, J> {
 
     /// A number that no connection has, if fewer than four are open.
     pub(crate) fn free_number(&self) -> Option<usize>
-        ensures free { IfSome result (λ k. k < 4 × seat_at self.now k ≡ None) }
-        ensures full { result ≡ None → (k : ℕ) → k < 4 → IsSome (seat_at self.now k) }
+        ensures free { IfSome result (λ k. k < most_offices × seat_at self.now k ≡ None) }
+        ensures full { result ≡ None → (k : ℕ) → k < most_offices → IsSome (seat_at self.now k) }
     {
         for k in 0..MOST_OFFICES {
             if self.seats[k].is_none() {
@@ -92,7 +93,7 @@ impl<S: Drop, J: Drop> Offices<S, J> {
 
     /// Whether an answer of one of them is not fully written.
     pub(crate) fn any_sending(&self) -> bool
-        ensures { (k : ℕ) → k < 4 → IsOfficeSending (seat_at self.now k) → IsTrue result }
+        ensures { (k : ℕ) → k < most_offices → IsOfficeSending (seat_at self.now k) → IsTrue result }
     {
         for k in 0..MOST_OFFICES {
             if self.is_sending(k) {

@@ -81,15 +81,17 @@ pub(crate) fn any_sending<S: Drop, W: Drop>(clients: &Clients<S, W>) -> bool
 }
 
 impl<S: Drop, W: Drop> Peers<S, W> {
-    ghost use Rattle.std.specs.Prelude.{false, nat_eq, ◌+◌, ◌≤◌, List, [], ◌∷◌, Option, None, Some, IfOk, IsSome, if◌then◌else◌};
+    ghost use Rattle.std.specs.Prelude.{false, nat_eq, min, ◌+◌, ◌-◌, ◌≤◌, List, [], ◌∷◌, length, Option, None, Some, IfOk, IsSome, if◌then◌else◌};
     ghost use Rattle.cad_network.specs.Deeds.{Deed, came, Adds, AddsSome};
     ghost use Rattle.cad_clients.specs.Budgets.{first_piece, later_piece};
     ghost use Rattle.cad_clients.specs.Notes.{IsOverdue};
     ghost use Rattle.cad_event_loop.specs.Hosting.{Hosts, IsClosing, IsTurnedAway, Serves};
     ghost use Rattle.cad_event_loop.specs.inner.Line.{first_of};
     ghost use Rattle.cad_event_loop.specs.inner.Times.{longest};
-    ghost use Rattle.cad_event_loop.specs.inner.Standing.{flag_at, standings, told_flag, GivesPiece, GivesTurnAlone, IsAtDoors, IsWoken};
-    ghost use Rattle.cad_event_loop.specs.Turns.{office_place, woken};
+    ghost use Rattle.cad_event_loop.specs.inner.Standing.{flag_at, standings, told_flag, GivesPiece, GivesTurnAlone, HearsAll, IsAtDoors, IsWoken};
+    ghost use Rattle.cad_event_loop.specs.Turns.{most_clients, most_in_turn, office_place, woken};
+    ghost use Rattle.cad_clients.specs.Steps.{most_turns};
+    ghost use Rattle.cad_office_socket.specs.Counting.{lined};
     ghost use Rattle.cad_event_loop.specs.Works.{held_at, place_of, AtOffices, Same};
 
     /// No client.
@@ -130,6 +132,7 @@ impl<S: Drop, W: Drop> Peers<S, W> {
     /// Marks the places that the network reports.
     fn note<N: Network<Socket = S>>(&mut self, net: &mut N)
         ensures told { AddsSome (N.history net.old) (N.history net.new) (IsWoken self.old self.new) }
+        ensures all { HearsAll N.all_reported (N.history net.old) net.new (N.history net.new) }
         ensures held { Same (held_at N.name self.old.clients) (held_at N.name self.new.clients) }
     {
         for _ in 0..PLACES {
@@ -141,7 +144,7 @@ impl<S: Drop, W: Drop> Peers<S, W> {
     }
 
     /// How many clients are connected.
-    pub(crate) fn client_count(&self) -> u64 {
+    fn client_count(&self) -> u64 {
         let mut count: u64 = 0;
         for c in 0..ROOM {
             if self.clients.is_open(c) {
@@ -151,20 +154,37 @@ impl<S: Drop, W: Drop> Peers<S, W> {
         count
     }
 
-    /// Waits until a socket may give or take something, or until the time is over. Returns the second, and the bytes of memory that the
-    /// program occupies, which are looked at once in a second.
+    /// The figures, with those who are connected now and those whose replies are worked on.
+    pub(crate) fn counted(&self) -> Figures
+        ensures { result.work ≡ (lined self.entry.now.figures (min (length self.entry.now.line.numbers.items) most_in_turn) (length self.entry.now.line.numbers.items - most_in_turn)).work }
+    {
+        let mut figures = self.figures;
+        figures.clients.connected = self.client_count();
+        figures.with_line(self.line.in_turn() as u64, self.line.waiting() as u64)
+    }
+
+    /// Waits until a socket may give or take something, or until the time is over. Returns the second, and the figures after this look at
+    /// the network.
     fn pass_time<N: Network<Socket = S>>(
         &self,
         net: &mut N,
         milliseconds: u64,
-    ) -> Result<(u64, u64)>
+    ) -> Result<(u64, Figures)>
+        ensures done { Adds (N.history net.old) (N.history net.new) [] }
+    {
+        let figures = self.figures.with_look(net.busy_micros());
+        let seconds = net.wait(milliseconds)?.max(self.now);
+        Ok((seconds, figures))
+    }
+
+    /// The bytes of memory that the program occupies, which are looked at once in a second.
+    fn resident_at<N: Network<Socket = S>>(&self, seconds: u64, net: &mut N) -> u64
         ensures { Adds (N.history net.old) (N.history net.new) [] }
     {
-        let seconds = net.wait(milliseconds)?.max(self.now);
         if self.measured == Some(seconds) {
-            return Ok((seconds, self.figures.resident_bytes));
+            return self.figures.resident_bytes;
         }
-        Ok((seconds, net.resident_bytes()))
+        net.resident_bytes()
     }
 
     /// Waits until a socket may give or take something, or until the time is over, and looks at the clock.
@@ -174,13 +194,18 @@ impl<S: Drop, W: Drop> Peers<S, W> {
         milliseconds: u64,
     ) -> Result<()>
         ensures told { AddsSome (N.history net.old) (N.history net.new) (IsWoken self.old self.new) }
+        ensures all { IfOk result (λ _. HearsAll N.all_reported (N.history net.old) net.new (N.history net.new)) }
         ensures held { Same (held_at N.name self.old.clients) (held_at N.name self.new.clients) }
     {
-        let (seconds, resident_bytes) = self.pass_time(net, milliseconds)?;
+        let (seconds, figures) = self.pass_time(net, milliseconds)?;
+        let resident_bytes = self.resident_at(seconds, net);
         self.now = seconds;
         self.measured = Some(seconds);
-        self.figures.seconds = seconds;
-        self.figures.resident_bytes = resident_bytes;
+        self.figures = Figures {
+            seconds,
+            resident_bytes,
+            ..figures
+        };
         self.note(net);
         Ok(())
     }
@@ -200,7 +225,7 @@ impl<S: Drop, W: Drop> Peers<S, W> {
     ) -> Option<Stopped>
         requires { IsSomeAnd (client_at self.old.clients c) MayGoOn }
         ensures bounded { R.spent meter.new ≤ R.spent meter.old + first_piece }
-        ensures hosts { (offices : AtOffices R.Reading) → Serves R.Responder R.JournalResponder.own R.owes (GivesTurnAlone c 4 (standings self.old offices) (standings self.new offices)) result (N.history net.old) desk.old (place_of N.name self.old.clients offices)
+        ensures hosts { (offices : AtOffices R.Reading) → Serves R.Responder R.JournalResponder.own R.owes (GivesTurnAlone c most_turns (standings self.old offices) (standings self.new offices)) result (N.history net.old) desk.old (place_of N.name self.old.clients offices)
             (N.history net.new) desk.new (place_of N.name self.new.clients offices) }
     {
         let mut counted = Counted {
@@ -235,7 +260,7 @@ impl<S: Drop, W: Drop> Peers<S, W> {
             .clients
             .work_on(self.alloc, c, self.now, net, desk, meter, &mut counting);
         let Counted { log: _, figures } = counting;
-        self.figures = after_serving(figures, served);
+        self.figures = after_serving(figures, served).with_piece();
         self.line.settle(c, self.clients.is_working(c));
     }
 
@@ -294,7 +319,7 @@ impl<S: Drop, W: Drop> Peers<S, W> {
         N: Network<Socket = S>,
         R: JournalResponder + WorkingResponder<Work = W>,
     >(&mut self, net: &mut N, desk: &mut Desk<R>)
-        ensures { (offices : AtOffices R.Reading) → Serves R.Responder R.JournalResponder.own R.owes (IsAtDoors 64 (standings self.old offices) (standings self.new offices)) None (N.history net.old) desk.old (place_of N.name self.old.clients offices)
+        ensures { (offices : AtOffices R.Reading) → Serves R.Responder R.JournalResponder.own R.owes (IsAtDoors most_clients (standings self.old offices) (standings self.new offices)) None (N.history net.old) desk.old (place_of N.name self.old.clients offices)
             (N.history net.new) desk.new (place_of N.name self.new.clients offices) }
     {
         for c in 0..ROOM {
@@ -394,7 +419,7 @@ impl<S: Drop, W: Drop> Peers<S, W> {
         R: JournalResponder + WorkingResponder<Work = W>,
         L: AccessLog<S>,
     >(&mut self, net: &mut N, desk: &mut Desk<R>, log: &mut L)
-        ensures { (offices : AtOffices R.Reading) → Serves R.Responder R.JournalResponder.own R.owes (IsAtDoors 64 (standings self.old offices) (standings self.new offices)) None (N.history net.old) desk.old (place_of N.name self.old.clients offices)
+        ensures { (offices : AtOffices R.Reading) → Serves R.Responder R.JournalResponder.own R.owes (IsAtDoors most_clients (standings self.old offices) (standings self.new offices)) None (N.history net.old) desk.old (place_of N.name self.old.clients offices)
             (N.history net.new) desk.new (place_of N.name self.new.clients offices) }
     {
         if !self.ready.clients_door {

@@ -1,6 +1,7 @@
 //! The places by which a network reports readiness, and who may continue.
 
 ghost use Rattle.std.specs.Prelude.{◌≡◌, length};
+ghost use Rattle.cad_event_loop.specs.Works.{most_offices};
 
 use cad_clients::ROOM;
 
@@ -26,7 +27,7 @@ pub(crate) struct Readiness {
     pub(crate) office_door: bool,
     /// The land office's connections by their numbers.
     offices: [bool; MOST_OFFICES],
-    pub ghost room: { length offices ≡ 4 },
+    pub ghost room: { length offices ≡ most_offices },
 }
 
 impl Readiness {
@@ -43,7 +44,7 @@ impl Readiness {
 
     /// Whether the socket of this connection of the land office may give or take something.
     pub(crate) fn office(&self, k: usize) -> bool
-        requires { k < 4 }
+        requires { k < most_offices }
         ensures { Some result ≡ flag_at self.now k }
     {
         self.offices[k]
@@ -51,7 +52,7 @@ impl Readiness {
 
     /// The same, from now on.
     pub(crate) fn set_office(&mut self, k: usize, is_ready: bool)
-        requires { k < 4 }
+        requires { k < most_offices }
         ensures { (j : ℕ) → flag_at self.new j ≡ (if nat_eq k j then Some is_ready else flag_at self.old j) }
     {
         self.offices[k] = is_ready;

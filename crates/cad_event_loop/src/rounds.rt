@@ -36,7 +36,10 @@ impl<S: Drop, J: Drop, W: Drop> Rounds<S, J, W> {
     ghost use Rattle.cad_event_loop.specs.inner.Offices.{seat_at, HaveBegun, HaveBegunUnless};
     ghost use Rattle.cad_event_loop.specs.inner.Rounds.{here, standing, IsNobody};
     ghost use Rattle.cad_event_loop.specs.inner.Standing.{first_pieces, most_pieces, GivesPiece, GivesTurnAlone, HearsBetween, IsAsked, IsAtDoors, MakesRound, ServesAll, ServesOffice, ServesOffices, ServesPeers, VisitsClient, WorksOnFirst};
-    ghost use Rattle.cad_event_loop.specs.Turns.{most_in_round, AreServed};
+    ghost use Rattle.cad_event_loop.specs.Turns.{most_between, most_clients_changed, most_for_client, most_for_offices, most_in_round, most_offices_changed, most_served, AreServed};
+    ghost use Rattle.cad_event_loop.specs.Works.{most_offices};
+    ghost use Rattle.cad_clients.specs.Steps.{most_turns};
+    ghost use Rattle.cad_office_socket.specs.Serving.{most_turns as most_for_office};
 
     /// Without clients and land office.
     pub(crate) fn new(alloc: Global) -> std::result::Result<Rounds<S, J, W>, AllocError>
@@ -65,16 +68,16 @@ impl<S: Drop, J: Drop, W: Drop> Rounds<S, J, W> {
         N: Network<Socket = S>,
         R: JournalResponder<Reading = J> + WorkingResponder<Work = W>,
     >(&mut self, k: usize, net: &mut N, desk: &mut Desk<R>) -> Option<Stopped>
-        requires number { k < 4 }
+        requires number { k < most_offices }
         requires begun { HaveBegun self.old.offices }
         ensures begun { HaveBegunUnless result self.new.offices }
-        ensures hosts { Serves R.Responder R.JournalResponder.own R.owes (ServesOffice k 8 (standing N.name self.old) (standing N.name self.new)) result (N.history net.old) desk.old (here N.name self.old) (N.history net.new) desk.new (here N.name self.new) }
+        ensures hosts { Serves R.Responder R.JournalResponder.own R.owes (ServesOffice k most_for_office (standing N.name self.old) (standing N.name self.new)) result (N.history net.old) desk.old (here N.name self.old) (N.history net.new) desk.new (here N.name self.new) }
     {
         let Some(office) = self.offices.take(k) else {
             self.peers.ready.set_office(k, false);
             return None;
         };
-        self.peers.figures.clients.connected = self.peers.client_count();
+        self.peers.figures = self.peers.counted();
         let (served, office) = office.serve(
             self.peers.alloc,
             self.peers.now,
@@ -92,10 +95,10 @@ impl<S: Drop, J: Drop, W: Drop> Rounds<S, J, W> {
         N: Network<Socket = S>,
         R: JournalResponder<Reading = J> + WorkingResponder<Work = W>,
     >(&mut self, k: usize, net: &mut N, desk: &mut Desk<R>) -> Option<Stopped>
-        requires number { k < 4 }
+        requires number { k < most_offices }
         requires begun { HaveBegun self.old.offices }
         ensures begun { HaveBegunUnless result self.new.offices }
-        ensures hosts { Serves R.Responder R.JournalResponder.own R.owes (ServesOffice k 8 (standing N.name self.old) (standing N.name self.new)) result (N.history net.old) desk.old (here N.name self.old) (N.history net.new) desk.new (here N.name self.new) }
+        ensures hosts { Serves R.Responder R.JournalResponder.own R.owes (ServesOffice k most_for_office (standing N.name self.old) (standing N.name self.new)) result (N.history net.old) desk.old (here N.name self.old) (N.history net.new) desk.new (here N.name self.new) }
     {
         if !self.peers.ready.office(k) {
             return None;
@@ -110,7 +113,7 @@ impl<S: Drop, J: Drop, W: Drop> Rounds<S, J, W> {
     >(&mut self, net: &mut N, desk: &mut Desk<R>) -> Option<Stopped>
         requires { HaveBegun self.old.offices }
         ensures begun { HaveBegunUnless result self.new.offices }
-        ensures hosts { Serves R.Responder R.JournalResponder.own R.owes (ServesOffices 32 result (standing N.name self.old) (standing N.name self.new)) result (N.history net.old) desk.old (here N.name self.old) (N.history net.new) desk.new (here N.name self.new) }
+        ensures hosts { Serves R.Responder R.JournalResponder.own R.owes (ServesOffices most_for_offices result (standing N.name self.old) (standing N.name self.new)) result (N.history net.old) desk.old (here N.name self.old) (N.history net.new) desk.new (here N.name self.new) }
     {
         for k in 0..MOST_OFFICES {
             if let Some(stopped) = self.serve_office(k, net, desk) {
@@ -127,7 +130,7 @@ impl<S: Drop, J: Drop, W: Drop> Rounds<S, J, W> {
     >(&mut self, net: &mut N, desk: &mut Desk<R>) -> Result<Option<Stopped>>
         requires { HaveBegun self.old.offices }
         ensures begun { HaveBegunUnless (end_of_round result) self.new.offices }
-        ensures hosts { Serves R.Responder R.JournalResponder.own R.owes (HearsBetween 33 result (standing N.name self.old) (standing N.name self.new)) (end_of_round result) (N.history net.old) desk.old (here N.name self.old) (N.history net.new) desk.new (here N.name self.new) }
+        ensures hosts { Serves R.Responder R.JournalResponder.own R.owes (HearsBetween most_between result (standing N.name self.old) (standing N.name self.new)) (end_of_round result) (N.history net.old) desk.old (here N.name self.old) (N.history net.new) desk.new (here N.name self.new) }
     {
         if self.offices.is_empty() {
             return Ok(None);
@@ -152,7 +155,7 @@ impl<S: Drop, J: Drop, W: Drop> Rounds<S, J, W> {
         requires { IsSomeAnd (client_at self.old.peers.clients c) MayGoOn }
         ensures bounded { R.spent meter.new ≤ R.spent meter.old + first_piece }
         ensures offices { self.new.offices ≡ self.old.offices }
-        ensures hosts { Serves R.Responder R.JournalResponder.own R.owes (GivesTurnAlone c 4 (standing N.name self.old) (standing N.name self.new)) result (N.history net.old) desk.old (here N.name self.old) (N.history net.new) desk.new (here N.name self.new) }
+        ensures hosts { Serves R.Responder R.JournalResponder.own R.owes (GivesTurnAlone c most_turns (standing N.name self.old) (standing N.name self.new)) result (N.history net.old) desk.old (here N.name self.old) (N.history net.new) desk.new (here N.name self.new) }
     {
         self.peers.serve_one(c, net, desk, meter, log)
     }
@@ -173,7 +176,7 @@ impl<S: Drop, J: Drop, W: Drop> Rounds<S, J, W> {
         requires { HaveBegun self.old.offices }
         ensures bounded { R.spent meter.new ≤ R.spent meter.old + first_piece }
         ensures begun { HaveBegunUnless (end_of_round result) self.new.offices }
-        ensures hosts { Serves R.Responder R.JournalResponder.own R.owes (VisitsClient c 37 result (standing N.name self.old) (standing N.name self.new)) (end_of_round result) (N.history net.old) desk.old (here N.name self.old) (N.history net.new) desk.new (here N.name self.new) }
+        ensures hosts { Serves R.Responder R.JournalResponder.own R.owes (VisitsClient c most_for_client result (standing N.name self.old) (standing N.name self.new)) (end_of_round result) (N.history net.old) desk.old (here N.name self.old) (N.history net.new) desk.new (here N.name self.new) }
     {
         if !self.peers.clients.is_ready(c) {
             return Ok(None);
@@ -276,7 +279,7 @@ impl<S: Drop, J: Drop, W: Drop> Rounds<S, J, W> {
         N: Network<Socket = S>,
         R: JournalResponder<Reading = J> + WorkingResponder<Work = W>,
     >(&mut self, k: usize, mut socket: S, net: &mut N, desk: &mut Desk<R>)
-        requires number { k < 4 }
+        requires number { k < most_offices }
         requires free { seat_at self.old.offices k ≡ None }
         requires begun { HaveBegun self.old.offices }
         ensures begun { HaveBegun self.new.offices }
@@ -318,7 +321,7 @@ impl<S: Drop, J: Drop, W: Drop> Rounds<S, J, W> {
         N: Network<Socket = S>,
         R: JournalResponder<Reading = J> + WorkingResponder<Work = W>,
     >(&mut self, k: usize, net: &mut N, desk: &mut Desk<R>)
-        requires number { k < 4 }
+        requires number { k < most_offices }
         requires begun { HaveBegun self.old.offices }
         ensures begun { HaveBegun self.new.offices }
         ensures hosts { Serves R.Responder R.JournalResponder.own R.owes (IsAtDoors 1 (standing N.name self.old) (standing N.name self.new)) None (N.history net.old) desk.old (here N.name self.old) (N.history net.new) desk.new (here N.name self.new) }
@@ -338,7 +341,7 @@ impl<S: Drop, J: Drop, W: Drop> Rounds<S, J, W> {
     >(&mut self, net: &mut N, desk: &mut Desk<R>)
         requires { HaveBegun self.old.offices }
         ensures begun { HaveBegun self.new.offices }
-        ensures hosts { Serves R.Responder R.JournalResponder.own R.owes (IsAtDoors 4 (standing N.name self.old) (standing N.name self.new)) None (N.history net.old) desk.old (here N.name self.old) (N.history net.new) desk.new (here N.name self.new) }
+        ensures hosts { Serves R.Responder R.JournalResponder.own R.owes (IsAtDoors most_offices (standing N.name self.old) (standing N.name self.new)) None (N.history net.old) desk.old (here N.name self.old) (N.history net.new) desk.new (here N.name self.new) }
     {
         for k in 0..MOST_OFFICES {
             self.drop_office(k, net, desk);
@@ -352,7 +355,7 @@ impl<S: Drop, J: Drop, W: Drop> Rounds<S, J, W> {
     >(&mut self, net: &mut N, desk: &mut Desk<R>)
         requires { HaveBegun self.old.offices }
         ensures begun { HaveBegun self.new.offices }
-        ensures hosts { Serves R.Responder R.JournalResponder.own R.owes (IsAtDoors 5 (standing N.name self.old) (standing N.name self.new)) None (N.history net.old) desk.old (here N.name self.old) (N.history net.new) desk.new (here N.name self.new) }
+        ensures hosts { Serves R.Responder R.JournalResponder.own R.owes (IsAtDoors most_offices_changed (standing N.name self.old) (standing N.name self.new)) None (N.history net.old) desk.old (here N.name self.old) (N.history net.new) desk.new (here N.name self.new) }
     {
         self.drop_offices(net, desk);
         self.take_office(net, desk);
@@ -365,7 +368,7 @@ impl<S: Drop, J: Drop, W: Drop> Rounds<S, J, W> {
         L: AccessLog<S>,
     >(&mut self, net: &mut N, desk: &mut Desk<R>, log: &mut L)
         ensures offices { self.new.offices ≡ self.old.offices }
-        ensures hosts { Serves R.Responder R.JournalResponder.own R.owes (IsAtDoors 128 (standing N.name self.old) (standing N.name self.new)) None (N.history net.old) desk.old (here N.name self.old) (N.history net.new) desk.new (here N.name self.new) }
+        ensures hosts { Serves R.Responder R.JournalResponder.own R.owes (IsAtDoors most_clients_changed (standing N.name self.old) (standing N.name self.new)) None (N.history net.old) desk.old (here N.name self.old) (N.history net.new) desk.new (here N.name self.new) }
     {
         self.peers.drop_overdue(net, desk);
         self.peers.take_clients(net, desk, log);
@@ -405,7 +408,7 @@ impl<S: Drop, J: Drop, W: Drop> Rounds<S, J, W> {
         requires { HaveBegun self.old.offices }
         ensures bounded { R.spent meter.new ≤ R.spent meter.old + most_pieces }
         ensures begun { HaveBegunUnless (end_of_round result) self.new.offices }
-        ensures hosts { Serves R.Responder R.JournalResponder.own R.owes (MakesRound 2435 result (standing N.name self.old) (standing N.name self.new)) (end_of_round result) (N.history net.old) desk.old (here N.name self.old) (N.history net.new) desk.new (here N.name self.new) }
+        ensures hosts { Serves R.Responder R.JournalResponder.own R.owes (MakesRound most_served result (standing N.name self.old) (standing N.name self.new)) (end_of_round result) (N.history net.old) desk.old (here N.name self.old) (N.history net.new) desk.new (here N.name self.new) }
     {
         let patience = self.patience();
         self.wait(net, desk, patience)?;

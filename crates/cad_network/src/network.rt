@@ -4,7 +4,7 @@ use std::io::Result;
 
 /// A network that takes sockets at its doors. None of its calls waits for a peer, except `wait` and `drain`.
 pub trait Network {
-    ghost use Rattle.std.specs.Prelude.{◌≡◌, ℕ, List, [], ◌∷◌, Option};
+    ghost use Rattle.std.specs.Prelude.{◌≡◌, ℕ, List, [], ◌∷◌, Option, None, IsOk};
     ghost use Rattle.std.specs.Io.{ReadsAtMost, WritesAtMost};
     ghost use Rattle.cad_network.specs.Deeds.{Deed, left, Adds, accepting, accepting_office, reading, waking, writing};
 
@@ -16,6 +16,12 @@ pub trait Network {
 
     // The number by which the history identifies a socket.
     ghost name: { Self.Socket → ℕ };
+
+    // Each socket that the last wait found is reported.
+    ghost all_reported: { Self → Type 0 };
+
+    // The peers of sockets that were let go have what was written to them, or the time for that is over.
+    ghost is_drained: { Self → Type 0 };
 
     /// Takes a client's socket.
     fn accept(&mut self) -> Result<Self::Socket>
@@ -48,9 +54,14 @@ pub trait Network {
     fn wait(&mut self, milliseconds: u64) -> Result<u64>
         ensures { Adds (history self.old) (history self.new) [] };
 
-    /// The place of a socket that may give or take something, one of those that the last wait found.
+    /// The microseconds since the last wait was over, or 0 if the system does not say.
+    fn busy_micros(&mut self) -> u64
+        ensures { Adds (history self.old) (history self.new) [] };
+
+    /// The place of a socket that may give or take something, one of those that the last wait found and that were not reported since.
     fn next_ready(&mut self) -> Option<usize>
-        ensures { Adds (history self.old) (history self.new) (waking result) };
+        ensures done { Adds (history self.old) (history self.new) (waking result) }
+        ensures none { result ≡ None → all_reported self.new };
 
     /// How many bytes of memory the program occupies, or 0 if the system does not say.
     fn resident_bytes(&mut self) -> u64
@@ -58,5 +69,6 @@ pub trait Network {
 
     /// Waits until the peers of sockets that were let go have what was written to them.
     fn drain(&mut self) -> Result<()>
-        ensures { Adds (history self.old) (history self.new) [] };
+        ensures done { Adds (history self.old) (history self.new) [] }
+        ensures drained { IsOk result → is_drained self.new };
 }

@@ -1,10 +1,11 @@
 -- What a service did since its start, in numbers (own profile).
-use Rattle.std.specs.Prelude.{◌≡◌, ⊤, ℕ, ◌+◌, ◌-◌, ◌^◌, min, ◌==◌, if◌then◌else◌, List, [], ◌∷◌}
+use Rattle.std.specs.Prelude.{◌≡◌, ⊤, ℕ, ◌+◌, ◌-◌, ◌^◌, min, max, ◌==◌, if◌then◌else◌, List, [], ◌∷◌}
 use Rattle.cad_office.specs.declared.print.Answer.{Answer}
 use Rattle.cad_office.specs.declared.print.Answer.TheVariants.{Entered, Refused, NotACommand}
 use Rattle.cad_office_socket.specs.declared.figures.CommandCounts.{CommandCounts}
 use Rattle.cad_office_socket.specs.declared.figures.Figures.{Figures}
 use Rattle.cad_office_socket.specs.declared.figures.ReplyCounts.{ReplyCounts}
+use Rattle.cad_office_socket.specs.declared.figures.WorkCounts.{WorkCounts}
 use Rattle.cad_office_socket.specs.declared.turned.EntryTurned.{EntryTurned}
 use Rattle.cad_office_socket.specs.declared.turned.EntryTurned.TheVariants.{Answered, Lost, StatusAnswered}
 
@@ -21,6 +22,7 @@ figures_with_client figures = record {
   commands = figures.commands;
   resident_bytes = figures.resident_bytes;
   seconds = figures.seconds;
+  work = figures.work;
 }
 
 -- after a reply with this status, and so many bytes
@@ -45,7 +47,35 @@ figures_replied figures status bytes = record {
   commands = figures.commands;
   resident_bytes = figures.resident_bytes;
   seconds = figures.seconds;
+  work = figures.work;
 }
+
+-- the same, but with this work for replies
+abbrev pub figures_with_work : Figures → WorkCounts → Figures
+figures_with_work figures work = record {
+  clients = figures.clients;
+  replies = figures.replies;
+  reply_bytes = figures.reply_bytes;
+  commands = figures.commands;
+  resident_bytes = figures.resident_bytes;
+  seconds = figures.seconds;
+  work = work;
+}
+
+-- so many replies are worked on in turn, and so many wait until one of those is made
+abbrev pub lined : Figures → ℕ → ℕ → Figures
+lined figures in_turn waiting =
+    figures_with_work figures (record { in_turn = in_turn; waiting = waiting; pieces = figures.work.pieces; longest_micros = figures.work.longest_micros })
+
+-- after a later piece of work for a reply
+abbrev pub worked : Figures → Figures
+worked figures =
+    figures_with_work figures (record { in_turn = figures.work.in_turn; waiting = figures.work.waiting; pieces = one_more figures.work.pieces; longest_micros = figures.work.longest_micros })
+
+-- after a look at the network, so many microseconds after the one before it
+abbrev pub looked : Figures → ℕ → Figures
+looked figures micros =
+    figures_with_work figures (record { in_turn = figures.work.in_turn; waiting = figures.work.waiting; pieces = figures.work.pieces; longest_micros = max figures.work.longest_micros micros })
 
 -- a command that got a revision is accepted, and any other line that was answered as a command is refused
 abbrev pub commands_answered : CommandCounts → Answer → CommandCounts
@@ -59,6 +89,14 @@ commands_after counts (Answered answer) = commands_answered counts answer
 commands_after counts (Lost answer) = commands_answered counts answer
 commands_after counts other = counts
 
+-- after a status that reported the longest time between two looks at the network, a new one begins
+abbrev pub work_reported : WorkCounts → WorkCounts
+work_reported work = record { in_turn = work.in_turn; waiting = work.waiting; pieces = work.pieces; longest_micros = 0 }
+
+abbrev pub work_after : WorkCounts → EntryTurned → WorkCounts
+work_after work (StatusAnswered status) = work_reported work
+work_after work other = work
+
 abbrev pub figures_after : Figures → EntryTurned → Figures
 figures_after figures turned = record {
   clients = figures.clients;
@@ -67,6 +105,7 @@ figures_after figures turned = record {
   commands = commands_after figures.commands turned;
   resident_bytes = figures.resident_bytes;
   seconds = figures.seconds;
+  work = work_after figures.work turned;
 }
 
 -- after some turns, the last one first

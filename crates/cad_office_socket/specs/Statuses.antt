@@ -14,6 +14,7 @@ use Rattle.cad_desk.specs.Desks.{SummarizesDesk}
 use Rattle.cad_office_socket.specs.declared.figures.ClientCounts.{ClientCounts}
 use Rattle.cad_office_socket.specs.declared.figures.CommandCounts.{CommandCounts}
 use Rattle.cad_office_socket.specs.declared.figures.ReplyCounts.{ReplyCounts}
+use Rattle.cad_office_socket.specs.declared.figures.WorkCounts.{WorkCounts}
 use Rattle.cad_office_socket.specs.declared.status.Status.{Status}
 
 abbrev pub whole : ℕ → Data
@@ -56,6 +57,13 @@ replies_data replies =
     (member (codes "500") (whole replies.internal_error)
     (member (codes "503") (whole replies.unavailable) no_members))))))
 
+abbrev pub work_data : WorkCounts → Data
+work_data work =
+    object (member (codes "in_turn") (whole work.in_turn)
+    (member (codes "longest_micros") (whole work.longest_micros)
+    (member (codes "pieces") (whole work.pieces)
+    (member (codes "waiting") (whole work.waiting) no_members))))
+
 abbrev pub status_data : Status → Data
 status_data status =
     object (member (codes "chain") (chain_or_null status.summary.chain)
@@ -68,7 +76,8 @@ status_data status =
     (member (codes "resident_bytes") (whole status.figures.resident_bytes)
     (member (codes "revision") (whole status.summary.revision)
     (member (codes "seconds") (whole status.figures.seconds)
-    (member (codes "versions") (versions_or_null status.summary.versions) no_members)))))))))))
+    (member (codes "versions") (versions_or_null status.summary.versions)
+    (member (codes "work") (work_data status.figures.work) no_members))))))))))))
 
 -- the line of the status
 abbrev pub status_text : Status → List ℕ

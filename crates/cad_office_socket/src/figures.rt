@@ -1,7 +1,7 @@
 //! What a service did since its start, in numbers.
 
 ghost use Rattle.std.specs.Prelude.{◌≡◌};
-ghost use Rattle.cad_office_socket.specs.Counting.{commands_answered, count_if as count_if_of, figures_after, figures_replied, figures_with_client, one_more as one_more_of, replies_after};
+ghost use Rattle.cad_office_socket.specs.Counting.{commands_answered, count_if as count_if_of, figures_after, figures_replied, figures_with_client, figures_with_work, lined, looked, one_more as one_more_of, replies_after, work_reported, worked};
 
 use crate::turned::EntryTurned;
 use cad_office::Answer;
@@ -41,6 +41,19 @@ pub struct CommandCounts {
     pub refused: u64,
 }
 
+/// The work for replies that take more than a first piece.
+#[derive(Clone, Copy, Debug, Default, PartialEq, Eq)]
+pub struct WorkCounts {
+    /// How many of these replies are worked on in turn.
+    pub in_turn: u64,
+    /// How many wait until one of those is made.
+    pub waiting: u64,
+    /// How many later pieces of work were made since the start.
+    pub pieces: u64,
+    /// The longest time between two looks at the network since the last status, in microseconds.
+    pub longest_micros: u64,
+}
+
 /// What a service did since its start, in numbers.
 #[derive(Clone, Copy, Debug, Default, PartialEq, Eq)]
 pub struct Figures {
@@ -56,6 +69,8 @@ pub struct Figures {
     pub resident_bytes: u64,
     /// The seconds since the start.
     pub seconds: u64,
+    /// The work for replies.
+    pub work: WorkCounts,
 }
 
 /// One more, up to the largest number.
@@ -106,11 +121,60 @@ impl CommandCounts {
     }
 }
 
+impl WorkCounts {
+    /// After a status that reported the longest time: a new one begins.
+    fn reported(self) -> WorkCounts
+        ensures { result ≡ work_reported self }
+    {
+        WorkCounts {
+            longest_micros: 0,
+            ..self
+        }
+    }
+}
+
 impl Figures {
     fn with_commands(self, commands: CommandCounts) -> Figures
-        ensures { result ≡ record { clients = self.clients; replies = self.replies; reply_bytes = self.reply_bytes; commands = commands; resident_bytes = self.resident_bytes; seconds = self.seconds } }
+        ensures { result ≡ record { clients = self.clients; replies = self.replies; reply_bytes = self.reply_bytes; commands = commands; resident_bytes = self.resident_bytes; seconds = self.seconds; work = self.work } }
     {
         Figures { commands, ..self }
+    }
+
+    fn with_work(self, work: WorkCounts) -> Figures
+        ensures { result ≡ figures_with_work self work }
+    {
+        Figures { work, ..self }
+    }
+
+    /// With so many replies that are worked on in turn, and so many that wait.
+    pub fn with_line(self, in_turn: u64, waiting: u64) -> Figures
+        ensures { result ≡ lined self in_turn waiting }
+    {
+        self.with_work(WorkCounts {
+            in_turn,
+            waiting,
+            ..self.work
+        })
+    }
+
+    /// After one more later piece of work.
+    pub fn with_piece(self) -> Figures
+        ensures { result ≡ worked self }
+    {
+        self.with_work(WorkCounts {
+            pieces: one_more(self.work.pieces),
+            ..self.work
+        })
+    }
+
+    /// After one more look at the network, so many microseconds after the look before it.
+    pub fn with_look(self, micros: u64) -> Figures
+        ensures { result ≡ looked self micros }
+    {
+        self.with_work(WorkCounts {
+            longest_micros: self.work.longest_micros.max(micros),
+            ..self.work
+        })
     }
 
     /// After one more client is connected.
@@ -137,7 +201,7 @@ impl Figures {
         }
     }
 
-    /// After a turn of the land office. If a command was answered in it, this counts.
+    /// After a turn of the land office. If a command was answered in it, this counts. After a status, a new longest time begins.
     pub fn with_turn(self, turned: &EntryTurned) -> Figures
         ensures { result ≡ figures_after self turned.now }
     {
@@ -145,12 +209,12 @@ impl Figures {
             EntryTurned::Answered(answer) | EntryTurned::Lost(answer) => {
                 self.with_commands(self.commands.answered(*answer))
             }
+            EntryTurned::StatusAnswered(_) => self.with_work(self.work.reported()),
             EntryTurned::Wrote
             | EntryTurned::Took
             | EntryTurned::Added
             | EntryTurned::Checked(_)
             | EntryTurned::CheckLost(_)
-            | EntryTurned::StatusAnswered(_)
             | EntryTurned::StatusLost
             | EntryTurned::JournalBegun(_)
             | EntryTurned::RowsRead

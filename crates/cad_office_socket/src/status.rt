@@ -2,9 +2,9 @@
 
 ghost use Rattle.std.specs.Prelude.{◌≡◌, IfOk};
 ghost use Rattle.serde_json.specs.View.{view};
-ghost use Rattle.cad_office_socket.specs.Statuses.{chain_or_null, clients_data, commands_data, number_or_null, replies_data, status_data, status_text, versions_data, versions_or_null};
+ghost use Rattle.cad_office_socket.specs.Statuses.{chain_or_null, clients_data, commands_data, number_or_null, replies_data, status_data, status_text, versions_data, versions_or_null, work_data};
 
-use crate::figures::{ClientCounts, CommandCounts, Figures, ReplyCounts};
+use crate::figures::{ClientCounts, CommandCounts, Figures, ReplyCounts, WorkCounts};
 use cad_commands::Chain;
 use cad_stream::{Summary, VersionCounts};
 use cad_versions::Class;
@@ -77,6 +77,12 @@ fn replies_json(alloc: Global, replies: &ReplyCounts) -> Result<Json, AllocError
         "405": replies.method_not_allowed, "500": replies.internal_error, "503": replies.unavailable})
 }
 
+fn work_json(alloc: Global, work: &WorkCounts) -> Result<Json, AllocError>
+    ensures { IfOk result (λ json. view json ≡ work_data work.now) }
+{
+    json!(in alloc; {"in_turn": work.in_turn, "longest_micros": work.longest_micros, "pieces": work.pieces, "waiting": work.waiting})
+}
+
 fn status_json(alloc: Global, status: &Status) -> Result<Json, AllocError>
     ensures { IfOk result (λ json. view json ≡ status_data status.now) }
 {
@@ -88,9 +94,10 @@ fn status_json(alloc: Global, status: &Status) -> Result<Json, AllocError>
     let oldest = number_json(summary.oldest);
     let replies = replies_json(alloc, &figures.replies)?;
     let versions = versions_json(alloc, &summary.versions)?;
+    let work = work_json(alloc, &figures.work)?;
     json!(in alloc; {"chain": chain, "clients": clients, "commands": commands, "highest_object": highest, "oldest": oldest,
         "replies": replies, "reply_bytes": figures.reply_bytes, "resident_bytes": figures.resident_bytes, "revision": summary.revision,
-        "seconds": figures.seconds, "versions": versions})
+        "seconds": figures.seconds, "versions": versions, "work": work})
 }
 
 /// The line of the status, with its end. An error means out of memory.

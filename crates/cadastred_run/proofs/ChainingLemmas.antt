@@ -16,12 +16,13 @@ module _ {L J : Type 0} (g : Ghosts L) (j : JournalGhosts L J) where
     same = has.same;
     reads = record {
       ready = λ none. has.reads.ready (sym keeps.rows ∙ none);
+      sound = has.reads.sound;
       noted = tt;
       cause = λ counts. tt;
       reads = record {
         store = λ counts. tt;
         damaged = tt;
-        still = λ counts. remains_then (ledger_of has.new) (ledger_of read) (ledger_of server) (has.reads.reads.still (keeps.clean counts)) (keeps.still counts);
+        still = λ counts answered. remains_then (ledger_of has.new) (ledger_of read) (ledger_of server) (has.reads.reads.still (keeps.clean counts) tt) (keeps.still counts);
         kept = λ counts commands stands. keeps.kept counts commands (has.reads.reads.kept (keeps.clean counts) commands stands);
         unchanged = λ counts. tt;
         clean = λ counts. has.reads.reads.clean (keeps.clean counts);

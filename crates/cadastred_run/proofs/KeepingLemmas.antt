@@ -98,7 +98,7 @@ module _ {L J : Type 0} (g : ledger.Ghosts L) (j : journal_ledger.Ghosts L J) (l
   unchained_stands fails_before refused it counts commands stands =
       let reads = it.2.reads.reads in
       let first = it.3.clean counts in
-      let still : g.remains lent (ledger_of it.0) = subst (λ (l : L). g.remains l (ledger_of it.0)) it.2.same (reads.still first) in
+      let still : g.remains lent (ledger_of it.0) = subst (λ (l : L). g.remains l (ledger_of it.0)) it.2.same (reads.still first tt) in
       elim (it.3.unchanged counts commands (reads.kept first commands (it.2.stands commands stands))) [
         | inl here ↦ inl here.ledger
         | inr shut ↦ inr (shut.0, shut.1, fails_before lent (ledger_of it.0) (ledger_of it.1) still shut.2)

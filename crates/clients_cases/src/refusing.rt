@@ -69,6 +69,8 @@ impl Responder for Refusing {
 
     ghost asks = { λ _. Unit {0} };
 
+    ghost seeks = { λ _ _. Unit {0} };
+
     ghost fails_to_answer = { λ _ _ fault. fault ≡ NotARegister };
 
     ghost fails_to_enter = { λ _. FailsToEnter };
@@ -84,6 +86,8 @@ impl Responder for Refusing {
     ghost remains = { λ old new. new ≡ old };
 
     ghost answer_keeps = { λ _ _. lost_keeps };
+
+    ghost seeks_asks = { λ _ _ seeks. seeks };
 
     ghost enter_keeps = { λ _. refused_keeps };
 

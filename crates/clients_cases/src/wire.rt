@@ -35,6 +35,7 @@ impl Wire {
 }
 
 impl Network for Wire {
+    ghost use Rattle.std.specs.Prelude.{⊤, ◌≤◌, length};
     ghost use Rattle.clients_cases.specs.Histories.{known};
 
     type Socket = u32;
@@ -42,6 +43,10 @@ impl Network for Wire {
     ghost history = { λ wire. known wire.history };
 
     ghost name = { λ socket. socket };
+
+    ghost all_reported = { λ wire. length wire.world.places.items ≤ wire.world.places_at };
+
+    ghost is_drained = { λ _. ⊤ };
 
     fn accept(&mut self) -> Result<u32> {
         match self.world.take_client() {
@@ -86,6 +91,10 @@ impl Network for Wire {
 
     fn wait(&mut self, _milliseconds: u64) -> Result<u64> {
         self.world.wait()
+    }
+
+    fn busy_micros(&mut self) -> u64 {
+        self.world.busy_micros()
     }
 
     fn next_ready(&mut self) -> Option<usize> {

@@ -64,6 +64,8 @@ pub(crate) struct World {
 }
 
 impl World {
+    ghost use Rattle.std.specs.Prelude.{◌≡◌, ◌≤◌, length, None};
+
     /// No peers, and these steps.
     pub(crate) fn new(alloc: Global, steps: Vec<Step>) -> World {
         World {
@@ -212,13 +214,20 @@ impl World {
         }
     }
 
+    /// The microseconds since the last wait: a thousand for each second so far.
+    pub(crate) fn busy_micros(&self) -> u64 {
+        self.seconds.saturating_mul(1000)
+    }
+
     /// How many bytes of memory are occupied: 256 pages, and one more for each second.
     pub(crate) fn resident_bytes(&self) -> u64 {
         self.seconds.saturating_add(256).saturating_mul(4096)
     }
 
     /// The next place that the network reports.
-    pub(crate) fn next_place(&mut self) -> Option<usize> {
+    pub(crate) fn next_place(&mut self) -> Option<usize>
+        ensures { result ≡ None → length self.new.places.items ≤ self.new.places_at }
+    {
         let place = self.places.get(self.places_at)?;
         let place = *place;
         self.places_at = self.places_at.saturating_add(1);

@@ -1,14 +1,15 @@
 -- The states of clients and of the land office, as the code keeps them, while all are served (own profile).
 use Rattle.std.specs.Prelude.{◌≡◌, ◌⊎◌, ⊤, ℕ, nat_eq, ◌+◌, ◌≤◌, ◌<◌, ◌*◌, Bool, true, false, ◌||◌, List, [], ◌∷◌, ◌++◌, length, map, Option, None, Some, Result, Ok, Err, if◌then◌else◌}
 use Rattle.std.specs.List.{slice_get}
-use Rattle.cad_network.specs.Deeds.{Deed, woke}
+use Rattle.cad_network.specs.Deeds.{Deed, woke, AddsSome}
 use Rattle.cad_clients.specs.declared.clients.Clients.{Clients}
 use Rattle.cad_clients.specs.Budgets.{first_piece, later_piece}
 use Rattle.cad_event_loop.specs.declared.peers.Peers.{Peers}
 use Rattle.cad_event_loop.specs.declared.readiness.Readiness.{Readiness}
 use Rattle.cad_event_loop.specs.declared.stopped.Stopped.{Stopped}
 use Rattle.cad_event_loop.specs.inner.Line.{standing_at}
-use Rattle.cad_event_loop.specs.Turns.{Standing, absent, waiting, ready, Standings, is_among, office_place, stands_after, stands_in, office_in, line_in, is_office_turn, any_of, has_turn, is_piece_of, pieces_of, HasEnough, EachHasTurn, IsQuiet, HearsOffice, AreVisits, HasPiece, ComesByVisits, GivesTurns, AreRounds, all_works}
+use Rattle.cad_event_loop.specs.Turns.{Standing, absent, waiting, ready, Standings, is_among, office_place, place_count, most_clients, most_for_client, most_for_piece, most_for_peers, stands_after, stands_in, office_in, line_in, is_office_turn, any_of, has_turn, is_piece_of, pieces_of, HasEnough, EachHasTurn, IsQuiet, HearsOffice, AreVisits, HasPiece, ComesByVisits, GivesTurns, AreRounds, all_works}
+use Rattle.cad_office_socket.specs.Serving.{most_turns as most_for_office}
 use Rattle.cad_event_loop.specs.Works.{AtOffice, AtOffices, Work, wakes}
 
 -- whether the socket of the land office's connection k may give or take something, if it may have that number
@@ -42,6 +43,14 @@ AreWoken old new places =
 abbrev pub IsWoken : {S W : Type 0} → Peers S W → Peers S W → List Deed → Type 0
 IsWoken old new deeds = (places : List ℕ) × (deeds ≡ map woke places) × AreWoken old new places
 
+-- so many things are done
+abbrev pub AreAsMany : ℕ → List Deed → Type 0
+AreAsMany count deeds = length deeds ≡ count
+
+-- The network reports all sockets that its last wait found, if it then says so, or as many as there are places.
+abbrev pub HearsAll : {N : Type 0} → (N → Type 0) → Option (List Deed) → N → Option (List Deed) → Type 0
+HearsAll all_reported from net to = all_reported net ⊎ AddsSome from to (AreAsMany place_count)
+
 -- at most so many things are done, and the states after them are these
 pub record IsPaced (most : ℕ) (old new : Standings) (works : List Work) : Type 0 where
   pub few : length works ≤ most
@@ -69,10 +78,6 @@ pub record ServesOffice (k most : ℕ) (old new : Standings) (works : List Work)
   pub passes : LosesNobody most old new works
   pub quiet : IsQuiet works
   pub turn : old.offices k ≡ ready → any_of (is_office_turn k) works ≡ true
-
--- the most that is done for one of them
-abbrev pub most_for_office : ℕ
-most_for_office = 8
 
 -- and so has each of those below number k
 pub record ServesOfficesBelow (k : ℕ) (old new : Standings) (works : List Work) : Type 0 where
@@ -115,28 +120,16 @@ pub record HasVisits (stands : ℕ → Standing) (works : List Work) : Type 0 wh
   pub all : works ≡ all_works visits
   pub are : AreVisits stands visits
 
--- the most that is done for one connection: four turns, after which the network reports, and eight turns of each of the land office's four
-abbrev pub most_for_one : ℕ
-most_for_one = 37
-
--- the most that is done for a piece of work, after which the network reports and the land office has its turns
-abbrev pub most_for_piece : ℕ
-most_for_piece = 34
-
--- and for all of these
-abbrev pub most_for_peers : ℕ
-most_for_peers = 2402
-
 -- the most units of work for replies: a first piece for each connection, and a further one for one of them
 abbrev pub first_pieces : ℕ
-first_pieces = 64 * first_piece
+first_pieces = most_clients * first_piece
 
 abbrev pub most_pieces : ℕ
 most_pieces = first_pieces + later_piece
 
 -- each of the connections below number c has its turns
 pub record GivesTurnsBelow (c : ℕ) (old new : Standings) (works : List Work) : Type 0 where
-  pub passes : LosesNobody (most_for_one * c) old new works
+  pub passes : LosesNobody (most_for_client * c) old new works
   pub turns : (d : ℕ) → d < c → old.clients d ≡ ready → HasEnough d works
   pub visits : HasVisits old.offices works
 
@@ -158,7 +151,7 @@ pub record VisitsClient {E : Type 0} (c most : ℕ) (result : Result (Option Sto
 
 -- each connection has its turns, if it may continue, and the land office has one, or still may
 pub record ServesAll {E : Type 0} (result : Result (Option Stopped) E) (old new : Standings) (works : List Work) : Type 0 where
-  pub paced : IsPaced (most_for_one * 64) old new works
+  pub paced : IsPaced (most_for_client * most_clients) old new works
   pub turns : IfWhole result (((c : ℕ) → old.clients c ≡ ready → HasEnough c works) × HasVisits old.offices works)
   pub kept_office : (k : ℕ) → old.offices k ≡ ready → (any_of (is_office_turn k) works ≡ true) ⊎ (new.offices k ≡ ready)
 

@@ -15,16 +15,16 @@ use Rattle.cad_event_loop.proofs.HostLemmas.{hosted_by, unhosted}
 use Rattle.std.proofs.lemmas.Result.{err_from_is_err_and}
 use Rattle.cad_event_loop.proofs.hosting.host.Goals as goal
 
-pub returns-in_err-rounds : goal.returns-in_err-rounds
-returns-in_err-rounds g c =
+pub returns-in_err-rounds-clause-hosted : goal.returns-in_err-rounds-clause-hosted
+returns-in_err-rounds-clause-hosted g c =
     let p = err_from_is_err_and c.from_residual.result c.from_residual.ensures.1 in
     rw p.1 (inl (unhosted g.R.Responder g.R.JournalResponder g.R.WorkingResponder.owes (g.N.Network.history c.args.net.now) c.args.desk.now))
 
 pub run-hosted-requires : goal.run-hosted-requires
 run-hosted-requires g c = record { each = λ k. subst (λ (o : Option (Office _ _)). HasBegun o) (sym (c.in_ok-rounds.ensures.1 k)) tt }
 
-pub returns : goal.returns
-returns g c =
+pub returns-clause-hosted : goal.returns-clause-hosted
+returns-clause-hosted g c =
     let first = nobody_is g.N.Network.name c.in_ok-rounds.rounds c.in_ok-rounds.ensures in
     let rounds = c.in_ok-rounds.rounds in
     let stand = standing g.N.Network.name rounds in

@@ -7,7 +7,7 @@ use Rattle.cadastred_run.proofs.hosting.host_desk.Goals as goal
 pub returns-in-Ok : goal.returns-in-Ok
 returns-in-Ok g c =
     let told : TellsAddress c.args.asked (g.W.Write.contents c.args.writer.now) (g.W.Write.contents c.tell_address.new.writer) (g.N.Network.history c.args.net.now) (g.N.Network.history c.host.new.net) = (c.in-Some.bound, c.in-Some.ensures.bound.1, c.in-Ok.ensures.told) in
-    rw c.of_hosting.ensures (hosted_ends g.R.Responder g.R.JournalResponder g.R.WorkingResponder.owes c.args.asked _ _ _ _ _ c.host.result c.args.desk.now c.host.new.desk told c.host.ensures)
+    rw c.of_hosting.ensures (hosted_ends g.R.Responder g.R.JournalResponder g.R.WorkingResponder.owes c.args.asked _ _ _ _ _ c.host.result c.args.desk.now c.host.new.desk told c.host.ensures.hosted)
 
 pub returns-in-Err : goal.returns-in-Err
 returns-in-Err g c = inl (refl, Adds-nil _)

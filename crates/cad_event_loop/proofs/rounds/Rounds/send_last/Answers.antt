@@ -7,11 +7,11 @@ use Rattle.cad_event_loop.proofs.rounds.Rounds.send_last.Goals as goal
 pub loop-init : goal.loop-init
 loop-init g c = hosts-nil g.R.Responder g.R.JournalResponder g.R.WorkingResponder.owes IsClosing (g.N.Network.history c.args.net.now) c.args.desk.now (here g.N.Network.name c.args.self.now)
 
-pub returns-then-not-is_sending : goal.returns-then-not-is_sending
-returns-then-not-is_sending g c = hosts-then g.R.Responder g.R.JournalResponder g.R.WorkingResponder.owes IsClosing None _ _ _ c.args.desk.now c.loop.desk c.send_all.new.desk _ _ _ c.loop.invariant c.send_all.ensures
+pub returns-then-is_sent-clause-hosts : goal.returns-then-is_sent-clause-hosts
+returns-then-is_sent-clause-hosts g c = hosts-then g.R.Responder g.R.JournalResponder g.R.WorkingResponder.owes IsClosing None _ _ _ c.args.desk.now c.loop.desk c.send_all.new.desk _ _ _ c.loop.invariant c.send_all.ensures
 
-pub returns-in_err-wait_last : goal.returns-in_err-wait_last
-returns-in_err-wait_last g c =
+pub returns-in_err-wait_last-clause-hosts : goal.returns-in_err-wait_last-clause-hosts
+returns-in_err-wait_last-clause-hosts g c =
     let sent = hosts-then g.R.Responder g.R.JournalResponder g.R.WorkingResponder.owes IsClosing None _ _ _ c.args.desk.now c.loop.desk c.send_all.new.desk _ _ _ c.loop.invariant c.send_all.ensures in
     hosts-then g.R.Responder g.R.JournalResponder g.R.WorkingResponder.owes IsClosing None _ _ _ c.args.desk.now c.send_all.new.desk c.wait_last.new.desk _ _ _ sent c.in_err-wait_last.ensures
 
