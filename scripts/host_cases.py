@@ -334,6 +334,13 @@ class Case:
         self.chance.shuffle(told)
         self.steps += [" ".join(["wake"] + [str(it) for it in told])] * bool(told) + ["end"]
 
+    def whole(self, waits, odds, doors):
+        """The case after some steps before each of so many waits. By `doors` the office's doors are more often reported."""
+        for _ in range(self.chance.randint(*waits)):
+            self.draw(odds)
+            self.wait(self.chance.random() < doors)
+        return self.end()
+
     def stop(self):
         """An office connects and sends `stop`."""
         self.steps += ["office", f"give {self.peers} stop_" if self.chance.random() < 0.8 else f"give {self.peers} stop"]
@@ -388,10 +395,7 @@ def case_of_offices(chance):
     drawn = Case(chance, range(64, 70))
     for _ in range(chance.randint(2, 4)):
         drawn.come_office()
-    for _ in range(chance.randint(8, 20)):
-        drawn.draw(OFFICE)
-        drawn.wait(chance.random() < 0.5)
-    return drawn.end()
+    return drawn.whole((8, 20), OFFICE, 0.5)
 
 
 def case_of_journals(chance):
@@ -400,10 +404,7 @@ def case_of_journals(chance):
     drawn.lines, drawn.most, drawn.greatest = [LINES[0]] * 5 + ["journal %d_", "journal 0_", "check " + LINES[0], "hello_"], 30, 40
     for _ in range(chance.randint(2, 4)):
         drawn.come_office()
-    for _ in range(chance.randint(20, 60)):
-        drawn.draw(OFFICE)
-        drawn.wait(chance.random() < 0.7)
-    return drawn.end()
+    return drawn.whole((20, 60), OFFICE, 0.7)
 
 
 def case_of_statuses(chance):
@@ -413,10 +414,7 @@ def case_of_statuses(chance):
     drawn.come()
     for _ in range(chance.randint(1, 3)):
         drawn.come_office()
-    for _ in range(chance.randint(12, 30)):
-        drawn.draw(OFFICE)
-        drawn.wait(chance.random() < 0.6)
-    return drawn.end()
+    return drawn.whole((12, 30), OFFICE, 0.6)
 
 
 def case_of_works(chance):
@@ -428,10 +426,7 @@ def case_of_works(chance):
         drawn.come()
     for _ in range(chance.randint(0, 2)):
         drawn.come_office()
-    for _ in range(chance.randint(12, 40)):
-        drawn.draw(CLIENTS)
-        drawn.wait(chance.random() < 0.5)
-    return drawn.end()
+    return drawn.whole((12, 40), CLIENTS, 0.5)
 
 
 KINDS = {
